@@ -1,0 +1,4 @@
+pub mod Numbers
+pub mod Labels
+pub mod Stacks
+pub mod Frames

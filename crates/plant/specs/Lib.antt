@@ -1,0 +1,4 @@
+pub mod Plants
+pub mod Answers
+pub mod Questions
+pub mod Futures
