@@ -25,6 +25,7 @@ push-fits es e h = go (leb 8 (length es)) (allowed (length es) (e .label)) (narr
   where
     never : (n : ℕ) → Some n ≡ None → ⊥
     never n q = let z : _≡_ {A = ℕ} 0 1 = cc in omega arith
+
     go : (full may thin : Bool) → leb 8 (length es) ≡ full → allowed (length es) (e .label) ≡ may → narrow e ≡ thin
         → cond {A = Option ℕ} full (Some 2) (cond may (cond thin None (Some 7)) (Some 3)) ≡ None → Fits es e
     go true may thin _ _ _ q = absurd (never 2 q)

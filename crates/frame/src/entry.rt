@@ -6,4 +6,8 @@ pub struct Entry {
     pub ttl: u8,
 }
 
-pub const NO_ENTRY: Entry = Entry { label: 0, tc: 0, ttl: 0 };
+pub const NO_ENTRY: Entry = Entry {
+    label: 0,
+    tc: 0,
+    ttl: 0,
+};

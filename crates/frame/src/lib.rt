@@ -1,10 +1,10 @@
 // Label stack entries, stacks, frames, and the refusals that every layer answers with.
-pub mod refusal;
-pub mod kind;
 pub mod entry;
+pub mod frame;
+pub mod kind;
+pub mod refusal;
 pub mod stack;
 pub mod stacking;
-pub mod frame;
 
 pub use crate::entry::Entry;
 pub use crate::entry::NO_ENTRY;

@@ -27,7 +27,10 @@ impl Stack {
     pub fn new() -> Stack
         ensures { λ r. ⌜ entriesOf r ≡ [] ⌝ }
     {
-        Stack { entries: [NO_ENTRY; 8], len: 0 }
+        Stack {
+            entries: [NO_ENTRY; 8],
+            len: 0,
+        }
     }
 
     pub fn len(&self) -> usize
@@ -82,10 +85,17 @@ impl Stack {
         ensures top { λ r. ⌜ r ≡ topOf (entriesOf (now (self .entry))) ⌝ }
         ensures rest { λ r. ⌜ entriesOf (now (self .exit)) ≡ restOf (entriesOf (now (self .entry))) ⌝ }
     {
-        if self.len == 0 {
-            return None;
+        let top = self.top();
+        self.shorten();
+        top
+    }
+
+    // Lets the top entry go, if there is one.
+    fn shorten(&mut self)
+        ensures { λ _. ⌜ entriesOf (now (self .exit)) ≡ restOf (entriesOf (now (self .entry))) ⌝ }
+    {
+        if self.len > 0 {
+            self.len -= 1;
         }
-        self.len -= 1;
-        Some(self.entries[self.len])
     }
 }

@@ -8,7 +8,11 @@ use crate::stack::Stack;
 use std::test::*;
 
 fn labelled(label: u32) -> Entry {
-    Entry { label, tc: 0, ttl: 64 }
+    Entry {
+        label,
+        tc: 0,
+        ttl: 64,
+    }
 }
 
 // The number that a push of an entry is refused with, 0 if it is accepted.
@@ -21,7 +25,16 @@ fn pushed(stack: &mut Stack, entry: Entry) -> u8 {
 
 #[test]
 fn on_an_empty_stack() -> Result<(), Fail> {
-    for (label, number) in [(16, 0), (1, 3), (0, 0), (2, 0), (3, 3), (15, 3), (1_048_575, 0), (1_048_576, 7)] {
+    for (label, number) in [
+        (16, 0),
+        (1, 3),
+        (0, 0),
+        (2, 0),
+        (3, 3),
+        (15, 3),
+        (1_048_575, 0),
+        (1_048_576, 7),
+    ] {
         let mut stack = Stack::new();
         check_eq(pushed(&mut stack, labelled(label)), number)?;
     }
@@ -30,7 +43,15 @@ fn on_an_empty_stack() -> Result<(), Fail> {
 
 #[test]
 fn above_label_16() -> Result<(), Fail> {
-    for (label, number) in [(1, 0), (0, 3), (2, 3), (3, 3), (15, 3), (16, 0), (1_048_576, 7)] {
+    for (label, number) in [
+        (1, 0),
+        (0, 3),
+        (2, 3),
+        (3, 3),
+        (15, 3),
+        (16, 0),
+        (1_048_576, 7),
+    ] {
         let mut stack = Stack::new();
         check_eq(pushed(&mut stack, labelled(16)), 0)?;
         check_eq(pushed(&mut stack, labelled(label)), number)?;
@@ -41,12 +62,52 @@ fn above_label_16() -> Result<(), Fail> {
 #[test]
 fn full_before_rule_before_width() -> Result<(), Fail> {
     let mut stack = Stack::new();
-    check_eq(pushed(&mut stack, Entry { label: 3, tc: 8, ttl: 0 }), 3)?;
-    check_eq(pushed(&mut stack, Entry { label: 16, tc: 8, ttl: 0 }), 7)?;
+    check_eq(
+        pushed(
+            &mut stack,
+            Entry {
+                label: 3,
+                tc: 8,
+                ttl: 0,
+            },
+        ),
+        3,
+    )?;
+    check_eq(
+        pushed(
+            &mut stack,
+            Entry {
+                label: 16,
+                tc: 8,
+                ttl: 0,
+            },
+        ),
+        7,
+    )?;
     for _ in 0..8 {
-        check_eq(pushed(&mut stack, Entry { label: 16, tc: 7, ttl: 255 }), 0)?;
+        check_eq(
+            pushed(
+                &mut stack,
+                Entry {
+                    label: 16,
+                    tc: 7,
+                    ttl: 255,
+                },
+            ),
+            0,
+        )?;
     }
-    check_eq(pushed(&mut stack, Entry { label: 3, tc: 8, ttl: 0 }), 2)?;
+    check_eq(
+        pushed(
+            &mut stack,
+            Entry {
+                label: 3,
+                tc: 8,
+                ttl: 0,
+            },
+        ),
+        2,
+    )?;
     check_eq(stack.len(), 8)
 }
 

@@ -24,11 +24,12 @@ pub record Welcome (v : PlantValue) (l : ℕ) (f : FrameValue) : Type 0 where
   pub deep : length (f .stack) ≤ v .shape .depth
 
 pub welcome : (v : PlantValue) (l : ℕ) (f : FrameValue) → sendRefusal v l f ≡ None → Welcome v l f
-welcome v l f e = 
+welcome v l f e =
     go (leb (v .shape .lines) l) (leb (v .shape .line l .cap) (length (v .waiting l))) (overKept (v .shape .kept) (f .stack)) (ltb (v .shape .depth) (length (f .stack))) refl refl refl refl e
   where
     never : (n : ℕ) → Some n ≡ None → ⊥
     never n q = let z : _≡_ {A = ℕ} 0 1 = cc in omega arith
+
     go : (a b c d : Bool) → leb (v .shape .lines) l ≡ a → leb (v .shape .line l .cap) (length (v .waiting l)) ≡ b → overKept (v .shape .kept) (f .stack) ≡ c → ltb (v .shape .depth) (length (f .stack)) ≡ d
         → cond {A = Option ℕ} a (Some 6) (cond b (Some 23) (cond c (Some 25) (cond d (Some 26) None))) ≡ None → Welcome v l f
     go true b c d _ _ _ _ q = absurd (never 6 q)
@@ -59,7 +60,7 @@ module _ (v w : PlantValue) (law : Lawful v) (l : ℕ) (f : FrameValue) where
   joined-total lt j =
       ap (λ s. sumTo (s .lines) (λ k. length (w .waiting k))) (j .shape)
       ∙ sum-one (λ k. length (v .waiting k)) (λ k. length (w .waiting k)) l 1 (v .shape .lines) lt
-        (ap length (j .here) ∙ length-append (v .waiting l) (f ∷ [])) (λ i _ ne. ap length (j .others i ne))
+      (ap length (j .here) ∙ length-append (v .waiting l) (f ∷ [])) (λ i _ ne. ap length (j .others i ne))
 
   pub joined-lawful : Welcome v l f → Joins v l f w → sumTo (w .shape .ports) (w .counts) ≡ total w → Lawful w
   joined-lawful h j counted =
@@ -82,7 +83,7 @@ module _ (v w : PlantValue) (law : Lawful v) (l : ℕ) (f : FrameValue) where
   pub handed-total : Hands v l f w → total v ≡ total w + 1
   handed-total j =
       sum-one (λ k. length (w .waiting k)) (λ k. length (v .waiting k)) l 1 (v .shape .lines) (j .line)
-        (ap length (j .here) ∙ sym (add-one (length (w .waiting l)))) (λ i _ ne. ap length (sym (j .others i ne)))
+      (ap length (j .here) ∙ sym (add-one (length (w .waiting l)))) (λ i _ ne. ap length (sym (j .others i ne)))
       ∙ ap (λ s. sumTo (s .lines) (λ k. length (w .waiting k)) + 1) (sym (j .shape))
 
   pub handed-lawful : Hands v l f w → sumTo (w .shape .ports) (w .counts) ≡ total w → (total w ≡ 0 → w .hops ≡ 0) → Lawful w

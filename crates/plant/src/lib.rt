@@ -1,7 +1,7 @@
 // The plant contract: what every carrier of frames means, obeys and answers.
+pub mod label;
 pub mod outcome;
 pub mod plant;
-pub mod label;
 
 pub use crate::label::label_kept;
 pub use crate::outcome::Outcome;

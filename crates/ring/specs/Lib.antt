@@ -1,0 +1,4 @@
+pub mod Rows
+pub mod Links
+pub mod Rings
+pub mod Laid
