@@ -3,8 +3,8 @@ mod carrying;
 mod jobs;
 mod printing;
 
-use std::io;
+use std::error::AnyError;
 
-fn main(rt: LibcRuntime) -> io::Result<()> {
+fn main(rt: LibcRuntime) -> Result<(), AnyError> {
     jobs::over_a_ring(&rt)
 }
