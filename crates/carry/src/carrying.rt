@@ -18,10 +18,37 @@ pub struct Tally {
     pub given: u32,
 }
 
-pub const NOTHING_YET: Tally = Tally { taken: 0, refused: 0, moved: 0, given: 0 };
+pub const NOTHING_YET: Tally = Tally {
+    taken: 0,
+    refused: 0,
+    moved: 0,
+    given: 0,
+};
+
+// Prints the lines of a plant.
+pub fn describe<P: Plant>(rt: &LibcRuntime, plant: &P) -> io::Result<()>
+    requires { ⌜ sound (now plant) ⌝ }
+{
+    for line in 0..plant.lines() {
+        if let (Some((from, to)), Some(cap), Some(span)) = (
+            plant.ends(line),
+            plant.cap(line),
+            plant.span(line),
+        ) {
+            println!(rt, "line {line}: {from} to {to}, cap {cap}, span {span}")?;
+        }
+    }
+    Ok(())
+}
 
 // Sends a frame on a line.
-pub fn send<P: Plant>(rt: &LibcRuntime, plant: &mut P, line: usize, frame: Frame, tally: &mut Tally) -> io::Result<()>
+pub fn send<P: Plant>(
+    rt: &LibcRuntime,
+    plant: &mut P,
+    line: usize,
+    frame: Frame,
+    tally: &mut Tally,
+) -> io::Result<()>
     requires { ⌜ sound (now plant) ⌝ }
     ensures { λ r. ⌜ sound (now (plant .exit)) ⌝ }
 {
@@ -41,7 +68,13 @@ pub fn send<P: Plant>(rt: &LibcRuntime, plant: &mut P, line: usize, frame: Frame
 }
 
 // Polls a port.
-pub fn poll<P: Plant>(rt: &LibcRuntime, plant: &mut P, port: usize, place: &mut Frame, tally: &mut Tally) -> io::Result<Outcome>
+pub fn poll<P: Plant>(
+    rt: &LibcRuntime,
+    plant: &mut P,
+    port: usize,
+    place: &mut Frame,
+    tally: &mut Tally,
+) -> io::Result<Outcome>
     requires { ⌜ sound (now plant) ⌝ }
     ensures sound { λ r. ⌜ sound (now (plant .exit)) ⌝ }
     ensures swept { λ r. ⌜ made r (λ o. Swept (value (now (plant .entry))) port o (value (now (plant .exit)))) ⌝ }
@@ -64,7 +97,12 @@ pub fn poll<P: Plant>(rt: &LibcRuntime, plant: &mut P, port: usize, place: &mut 
 }
 
 // Polls every port once, in their order, and tells whether some poll was not idle.
-pub fn sweep<P: Plant>(rt: &LibcRuntime, plant: &mut P, place: &mut Frame, tally: &mut Tally) -> io::Result<bool>
+pub fn sweep<P: Plant>(
+    rt: &LibcRuntime,
+    plant: &mut P,
+    place: &mut Frame,
+    tally: &mut Tally,
+) -> io::Result<bool>
     requires { ⌜ sound (now plant) ⌝ }
     ensures sound { λ r. ⌜ sound (now (plant .exit)) ⌝ }
     ensures passed { λ r. ⌜ made r (λ some. Passed (value (now (plant .entry))) some (value (now (plant .exit)))) ⌝ }
@@ -81,7 +119,12 @@ pub fn sweep<P: Plant>(rt: &LibcRuntime, plant: &mut P, place: &mut Frame, tally
 }
 
 // Polls until nothing waits.
-pub fn drain<P: Plant>(rt: &LibcRuntime, plant: &mut P, place: &mut Frame, tally: &mut Tally) -> io::Result<()>
+pub fn drain<P: Plant>(
+    rt: &LibcRuntime,
+    plant: &mut P,
+    place: &mut Frame,
+    tally: &mut Tally,
+) -> io::Result<()>
     requires { ⌜ sound (now plant) ⌝ }
     ensures sound { λ r. ⌜ sound (now (plant .exit)) ⌝ }
     ensures empty { λ r. ⌜ made r (λ _. total (value (now (plant .exit))) ≡ 0) ⌝ }

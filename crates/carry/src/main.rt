@@ -6,5 +6,8 @@ mod printing;
 use std::error::AnyError;
 
 fn main(rt: LibcRuntime) -> Result<(), AnyError> {
-    jobs::over_a_ring(&rt)
+    jobs::over_a_ring(&rt)?;
+    jobs::over_a_tunnel(&rt)?;
+    jobs::windows(&rt)?;
+    jobs::over_two_tunnels(&rt)
 }

@@ -13,7 +13,12 @@ use std::alloc::Global;
 use std::test::*;
 
 fn release(a: u32) -> Frame {
-    Frame { kind: Kind::Release, stack: Stack::new(), a, b: 16 }
+    Frame {
+        kind: Kind::Release,
+        stack: Stack::new(),
+        a,
+        b: 16,
+    }
 }
 
 // The number that a plant of so many equal links in so many places tells, 0 if none.
@@ -26,25 +31,67 @@ fn told(heap: Global, count: usize, link: Link, places: usize) -> Result<u8, All
     for _ in 0..places {
         frames.push(release(0))?;
     }
-    Ok(match Ring::new(links.as_slice(), frames).fault() {
-        Some(refusal) => refusal.number(),
-        None => 0,
-    })
+    Ok(
+        match Ring::new(links.as_slice(), frames).fault() {
+            Some(refusal) => refusal.number(),
+            None => 0,
+        },
+    )
 }
 
 #[test]
 fn making(rt: LibcRuntime) -> Result<(), Fail> {
     let heap = rt.alloc();
-    let good = Link { a: 0, b: 15, cap: 1 };
+    let good = Link {
+        a: 0,
+        b: 15,
+        cap: 1,
+    };
     check_eq(told(heap, 0, good, 100)?, 7)?;
     check_eq(told(heap, 17, good, 100)?, 7)?;
     check_eq(told(heap, 16, good, 32)?, 0)?;
     check_eq(told(heap, 16, good, 31)?, 27)?;
-    check_eq(told(heap, 1, Link { a: 16, b: 16, cap: 0 }, 0)?, 4)?;
+    check_eq(
+        told(
+            heap,
+            1,
+            Link {
+                a: 16,
+                b: 16,
+                cap: 0,
+            },
+            0,
+        )?,
+        4,
+    )?;
     check_eq(told(heap, 1, Link { a: 3, b: 3, cap: 1 }, 2)?, 7)?;
     check_eq(told(heap, 1, Link { a: 0, b: 1, cap: 0 }, 2)?, 7)?;
-    check_eq(told(heap, 1, Link { a: 0, b: 1, cap: 33 }, 66)?, 7)?;
-    check_eq(told(heap, 1, Link { a: 0, b: 1, cap: 32 }, 64)?, 0)
+    check_eq(
+        told(
+            heap,
+            1,
+            Link {
+                a: 0,
+                b: 1,
+                cap: 33,
+            },
+            66,
+        )?,
+        7,
+    )?;
+    check_eq(
+        told(
+            heap,
+            1,
+            Link {
+                a: 0,
+                b: 1,
+                cap: 32,
+            },
+            64,
+        )?,
+        0,
+    )
 }
 
 #[test]

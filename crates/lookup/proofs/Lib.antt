@@ -1,0 +1,5 @@
+pub mod Agree
+pub mod Halves
+pub mod Longest
+pub mod Taking
+pub mod Strict

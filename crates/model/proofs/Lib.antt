@@ -1,0 +1,17 @@
+pub mod Firsts
+pub mod Logical
+pub mod Lists
+pub mod Link
+pub mod Wiring
+pub mod Views
+pub mod Labels
+pub mod Tells
+pub mod Arrivals
+pub mod Books
+pub mod State
+pub mod Told
+pub mod Order
+pub mod Deals
+pub mod Effects
+pub mod Runs
+pub mod Citing

@@ -1,0 +1,5 @@
+pub mod Tunnels
+pub mod Held
+pub mod Onward
+pub mod Rules
+pub mod Inner
