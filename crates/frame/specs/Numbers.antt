@@ -5,7 +5,7 @@ use Rattle.std.specs.declared.option.Option.the-variants.{Some, None}
 use Rattle.std.specs.declared.result.Result.{Result}
 use Rattle.std.specs.declared.result.Result.the-variants.{Ok, Err}
 use Rattle.frame.specs.declared.refusal.Refusal.{Refusal}
-use Rattle.frame.specs.declared.refusal.Refusal.the-variants.{StackFull, LabelRule, NoRouter, NoLine, OutOfRange, HostBits, NoPath, TableFull, FecTaken, Unfit, LineFull, LabelKept, TooDeep, BufferShort}
+use Rattle.frame.specs.declared.refusal.Refusal.the-variants.{StackFull, LabelRule, NoRouter, NoFec, NoLine, OutOfRange, HostBits, OtherRouter, NoPath, TableFull, FecTaken, Unfit, LineFull, BookFull, LabelKept, TooDeep, BufferShort}
 use Rattle.frame.specs.declared.kind.Kind.{Kind}
 use Rattle.frame.specs.declared.kind.Kind.the-variants.{Data, Mapping, Withdraw, Release}
 
@@ -13,14 +13,17 @@ abbrev pub refusalNumber : Refusal → ℕ
 refusalNumber StackFull = 2
 refusalNumber LabelRule = 3
 refusalNumber NoRouter = 4
+refusalNumber NoFec = 5
 refusalNumber NoLine = 6
 refusalNumber OutOfRange = 7
 refusalNumber HostBits = 8
+refusalNumber OtherRouter = 9
 refusalNumber NoPath = 15
 refusalNumber TableFull = 20
 refusalNumber FecTaken = 21
 refusalNumber Unfit = 22
 refusalNumber LineFull = 23
+refusalNumber BookFull = 24
 refusalNumber LabelKept = 25
 refusalNumber TooDeep = 26
 refusalNumber BufferShort = 27

@@ -9,10 +9,13 @@ pub enum Refusal {
     // a label where its rule does not let it stand
     LabelRule,
     NoRouter,
+    NoFec,
     NoLine,
     OutOfRange,
     // a prefix with a one bit behind its length
     HostBits,
+    // a next hop over a line that begins at another router
+    OtherRouter,
     // the lines of a tunnel are no path
     NoPath,
     // one FEC too many
@@ -22,6 +25,8 @@ pub enum Refusal {
     // what is below cannot carry it
     Unfit,
     LineFull,
+    // a packet more than the book holds
+    BookFull,
     // a top label that the plant keeps for its tunnels
     LabelKept,
     // more entries than the plant's depth
@@ -38,14 +43,17 @@ impl Refusal {
             Refusal::StackFull => 2,
             Refusal::LabelRule => 3,
             Refusal::NoRouter => 4,
+            Refusal::NoFec => 5,
             Refusal::NoLine => 6,
             Refusal::OutOfRange => 7,
             Refusal::HostBits => 8,
+            Refusal::OtherRouter => 9,
             Refusal::NoPath => 15,
             Refusal::TableFull => 20,
             Refusal::FecTaken => 21,
             Refusal::Unfit => 22,
             Refusal::LineFull => 23,
+            Refusal::BookFull => 24,
             Refusal::LabelKept => 25,
             Refusal::TooDeep => 26,
             Refusal::BufferShort => 27,

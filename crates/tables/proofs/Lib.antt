@@ -1,0 +1,4 @@
+pub mod Blanks
+pub mod Places
+pub mod Changes
+pub mod Dues

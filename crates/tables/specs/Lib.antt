@@ -1,0 +1,4 @@
+pub mod Rows
+pub mod Grids
+pub mod Reading
+pub mod Sending
