@@ -1,5 +1,6 @@
 // The network: a plan and a plant, started, and the five calls.
 mod arriving;
+pub mod asking;
 pub mod calls;
 mod dealing;
 mod entering;
@@ -8,9 +9,10 @@ pub mod network;
 mod refusals;
 pub mod routers;
 mod seeing;
-pub mod start;
+pub mod starting;
 mod steering;
 mod verdict;
 
 pub use crate::network::Network;
 pub use crate::routers::Routers;
+pub use crate::starting::start;

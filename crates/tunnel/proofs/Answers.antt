@@ -28,7 +28,7 @@ module _ (p : Path) (s : Shape) where
   pub line-second : tunnelShape p s .line (s .lines + 1) ≡ whole s (back p) (p .window)
   line-second = cond-false (ltb (s .lines + 1) (s .lines)) _ _ (le-ltb (s .lines + 1) (s .lines) (omega arith)) ∙ cond-false (eqb (s .lines + 1) (s .lines)) _ _ (ne-eqb (s .lines + 1) (s .lines) (omega arith))
 
--- a tunnel's value after a step that keeps the shape, overKept the shape as it was
+-- a tunnel's value after a step that keeps the shape, over the shape as it was
 module _ (p : Path) (v w : PlantValue) (same : w .shape ≡ v .shape) where
   shape-same : tunnelValue p w .shape ≡ tunnelValue p v .shape
   shape-same = ap (tunnelShape p) same

@@ -1,4 +1,4 @@
--- Lists gathered hop by hop, and sums overKept hops, where one or two of them change. Assumes nothing.
+-- Lists gathered hop by hop, and sums over hops, where one or two of them change. Assumes nothing.
 use mathlib.Core.Path.{_≡_, refl, sym, ap, ap₂, _∙_}
 use mathlib.Core.List.{List, [], _∷_, _++_, append-assoc, append-nil}
 use mathlib.Core.Bool.{Bool, true, false, cond}

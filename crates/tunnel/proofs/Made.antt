@@ -1,4 +1,4 @@
--- A tunnel overKept a plant on which nothing waits keeps the laws. Assumes nothing.
+-- A tunnel over a plant on which nothing waits keeps the laws. Assumes nothing.
 use mathlib.Core.Path.{_≡_, refl, sym, ap, _∙_, subst}
 use mathlib.Core.List.{List, [], map}
 use mathlib.Core.Bool.{true}
