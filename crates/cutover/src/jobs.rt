@@ -22,7 +22,12 @@ fn ring_of(rt: &LibcRuntime, links: &[Link]) -> Result<Ring, AnyError>
     ensures { λ r. ⌜ made r (λ ring. RingSound ring) ⌝ }
 {
     let mut places = Vec::new(rt.alloc());
-    let blank = Frame { kind: Kind::Data, stack: Stack::new(), a: 0, b: 0 };
+    let blank = Frame {
+        kind: Kind::Data,
+        stack: Stack::new(),
+        a: 0,
+        b: 0,
+    };
     for link in links {
         for _ in 0..link.cap.min(32) {
             places.push(blank)?;
@@ -43,7 +48,10 @@ fn plan_of(rt: &LibcRuntime, routers: u32) -> Result<Plan, AnyError> {
 
 // The way from router 0 to router 2 is cut over from router 1 to router 3, while packets are under way.
 pub fn over_a_ring(rt: &LibcRuntime) -> Result<(), AnyError> {
-    println!(rt, "over a ring plant: router 0 to router 2, by router 1 and then by router 3")?;
+    println!(
+        rt,
+        "over a ring plant: router 0 to router 2, by router 1 and then by router 3"
+    )?;
     let links = [
         Link { a: 0, b: 1, cap: 2 },
         Link { a: 1, b: 2, cap: 2 },
@@ -125,8 +133,15 @@ pub fn over_a_tunnel(rt: &LibcRuntime) -> Result<(), AnyError> {
 
 // And through a tunnel over that tunnel.
 pub fn over_two_tunnels(rt: &LibcRuntime) -> Result<(), AnyError> {
-    println!(rt, "over a tunnel from router 0 to router 3, over a tunnel from router 0 to router 2")?;
-    let links = [Link { a: 0, b: 1, cap: 4 }, Link { a: 1, b: 2, cap: 4 }, Link { a: 2, b: 3, cap: 4 }];
+    println!(
+        rt,
+        "over a tunnel from router 0 to router 3, over a tunnel from router 0 to router 2"
+    )?;
+    let links = [
+        Link { a: 0, b: 1, cap: 4 },
+        Link { a: 1, b: 2, cap: 4 },
+        Link { a: 2, b: 3, cap: 4 },
+    ];
     let lower = Tunnel::new(ring_of(rt, &links)?, &[0, 2], 2);
     let mut net = start(rt.alloc(), plan_of(rt, 4)?, Tunnel::new(lower, &[6, 4], 1))?;
     let steps = [

@@ -55,5 +55,8 @@ pub fn print_book<P: Plant>(rt: &LibcRuntime, net: &Network<P>) -> io::Result<()
     let delivered = net.count(Fate::Delivered);
     let dropped = net.count(Fate::Dropped);
     let waiting = net.count(Fate::Waiting);
-    println!(rt, "delivered {delivered}, dropped {dropped}, waiting {waiting}")
+    println!(
+        rt,
+        "delivered {delivered}, dropped {dropped}, waiting {waiting}"
+    )
 }

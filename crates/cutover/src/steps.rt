@@ -18,7 +18,13 @@ pub enum Step {
     Poll(usize),
 }
 
-fn route<P: Plant>(rt: &LibcRuntime, net: &mut Network<P>, router: usize, fec: u32, line: Option<usize>) -> io::Result<()>
+fn route<P: Plant>(
+    rt: &LibcRuntime,
+    net: &mut Network<P>,
+    router: usize,
+    fec: u32,
+    line: Option<usize>,
+) -> io::Result<()>
     requires { ⌜ P·Plant .sound (now net .plant) × Fits (now net .routers) (P·Plant .value (now net .plant)) ⌝ }
     ensures { λ r. ⌜ P·Plant .sound (now (net .exit) .plant) × Fits (now (net .exit) .routers) (P·Plant .value (now (net .exit) .plant)) ⌝ }
 {
@@ -32,7 +38,13 @@ fn route<P: Plant>(rt: &LibcRuntime, net: &mut Network<P>, router: usize, fec: u
     }
 }
 
-fn own<P: Plant>(rt: &LibcRuntime, net: &mut Network<P>, router: usize, fec: u32, mark: usize) -> io::Result<()>
+fn own<P: Plant>(
+    rt: &LibcRuntime,
+    net: &mut Network<P>,
+    router: usize,
+    fec: u32,
+    mark: usize,
+) -> io::Result<()>
     requires { ⌜ P·Plant .sound (now net .plant) × Fits (now net .routers) (P·Plant .value (now net .plant)) ⌝ }
     ensures { λ r. ⌜ P·Plant .sound (now (net .exit) .plant) × Fits (now (net .exit) .routers) (P·Plant .value (now (net .exit) .plant)) ⌝ }
 {
@@ -43,11 +55,20 @@ fn own<P: Plant>(rt: &LibcRuntime, net: &mut Network<P>, router: usize, fec: u32
     }
 }
 
-fn inject<P: Plant>(rt: &LibcRuntime, net: &mut Network<P>, router: usize, bits: u32, ttl: usize) -> io::Result<()>
+fn inject<P: Plant>(
+    rt: &LibcRuntime,
+    net: &mut Network<P>,
+    router: usize,
+    bits: u32,
+    ttl: usize,
+) -> io::Result<()>
     requires { ⌜ P·Plant .sound (now net .plant) × Fits (now net .routers) (P·Plant .value (now net .plant)) ⌝ }
     ensures { λ r. ⌜ P·Plant .sound (now (net .exit) .plant) × Fits (now (net .exit) .routers) (P·Plant .value (now (net .exit) .plant)) ⌝ }
 {
-    print!(rt, "inject: router {router}, address {bits:08x}, TTL {ttl}: ")?;
+    print!(
+        rt,
+        "inject: router {router}, address {bits:08x}, TTL {ttl}: "
+    )?;
     match net.inject(router, Address::ipv4(bits), ttl) {
         Ok(packet) => println!(rt, "packet {packet}"),
         Err(refusal) => print_refusal(rt, refusal),
