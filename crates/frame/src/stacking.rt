@@ -1,7 +1,9 @@
 // Push, pop and questions of a label stack.
 ghost use mathlib.Core.Path.{_≡_};
 ghost use mathlib.Core.List.{[]};
+ghost use Prim.Native.Nat.{_<_};
 ghost use lib.ListN.{length};
+ghost use Rattle.std.specs.declared.option.Option.the-variants.{Some};
 ghost use Rattle.frame.specs.Labels.{allowed};
 ghost use Rattle.frame.specs.Numbers.{toldBy};
 ghost use Rattle.frame.specs.Stacks.{entriesOf, topOf, restOf, pushRefusal, Pushed};
@@ -42,10 +44,18 @@ impl Stack {
     pub fn top(&self) -> Option<Entry>
         ensures { λ r. ⌜ r ≡ topOf (entriesOf (now (self .entry))) ⌝ }
     {
-        if self.len == 0 {
+        if self.len() == 0 {
             return None;
         }
-        Some(self.entries[self.len - 1])
+        Some(self.highest())
+    }
+
+    // The top entry of a stack that has one.
+    fn highest(&self) -> Entry
+        requires { ⌜ 0 < length (entriesOf (now self)) ⌝ }
+        ensures { λ r. ⌜ topOf (entriesOf (now (self .entry))) ≡ Some r ⌝ }
+    {
+        self.entries[self.len - 1]
     }
 
     // One entry more on top, or a refusal that changes nothing.
