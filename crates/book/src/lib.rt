@@ -1,4 +1,6 @@
 // The book of packets: a record for each packet taken in, by its number, with its end once it has come.
+#![tactic(auto)]
+
 pub mod book;
 pub mod packet;
 mod reading;

@@ -1,4 +1,5 @@
 // Carries labelled frames over plants and prints each step: what is sent, what is refused, and what comes out where.
+#![tactic(auto)]
 
 mod carrying;
 mod jobs;

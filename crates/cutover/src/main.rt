@@ -1,4 +1,5 @@
 // Rehearses cutovers through the network, over a ring plant and over tunnels, and prints each step.
+#![tactic(auto)]
 
 mod jobs;
 mod printing;

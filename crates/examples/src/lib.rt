@@ -1,4 +1,6 @@
 // The published worked examples of stacks and tunnels, as one proved table.
+#![tactic(auto)]
+
 ghost use Rattle.std.specs.Prelude.{◌≡◌, length};
 ghost use Rattle.tunnel.specs.Held.{All};
 ghost use Rattle.examples.specs.Table.{examples, Holds};

@@ -1,4 +1,6 @@
 // Label stack entries, stacks, frames, and the refusals that every layer answers with.
+#![tactic(auto)]
+
 pub mod entry;
 pub mod frame;
 pub mod kind;

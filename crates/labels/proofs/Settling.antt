@@ -1,5 +1,5 @@
 -- Pools in which no label is taken. Assumes nothing.
-use Rattle.std.proofs.Common.{◌≡◌, ℕ, Bool, true, false, ◌⊎◌, sym, refl, ap, ◌∙◌, inl, inr}
+use Rattle.std.proofs.Common.{◌≡◌, ℕ, false, refl, ap, ◌∙◌, inl, inr}
 use Rattle.std.proofs.lemmas.Bool.{true≢false}
 use Rattle.model.specs.Tables.{put2, first_label, is_free}
 use Rattle.labels.specs.declared.pool.Pool.{Pool}

@@ -1,5 +1,5 @@
 -- The lines of a wired shape are those of the wiring. Assumes nothing.
-use Rattle.std.proofs.Common.{◌≡◌, ℕ, ◌<◌, Bool, true, false, cond, not, ◌&&◌, eqb, ltb, ◌⊎◌, get_or, Some, None, sym, ap, ◌∙◌, ap₂, inl, inr, arith}
+use Rattle.std.proofs.Common.{◌≡◌, ℕ, ◌<◌, Bool, true, false, cond, not, ◌&&◌, eqb, ltb, get_or, Some, None, sym, ap, ◌∙◌, ap₂, inl, inr, arith}
 use Rattle.std.proofs.lemmas.Bool.{cases_Bool, ltb-true, lt-ltb, cond-true, cond-false}
 use Rattle.plant.specs.Plants.{Shape}
 use Rattle.model.specs.Tables.{Tables, put, first, is_some, untold, free, is_leaving, on_lines_into, is_quiet, tidy, with_labels, put2}

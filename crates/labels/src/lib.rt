@@ -1,4 +1,6 @@
 // The routers' labels: the pool that labels are granted from, their statuses, how far each has been told, and the refresh.
+#![tactic(auto)]
+
 pub mod grant;
 pub mod labels;
 mod lines;

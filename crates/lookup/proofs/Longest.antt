@@ -1,5 +1,5 @@
 -- The longest of the first n FECs that pass a test, by one FEC more. Assumes nothing.
-use Rattle.std.proofs.Common.{◌≡◌, ℕ, zero, suc, ◌+◌, ◌<◌, ◌≤◌, Bool, true, false, cond, ◌&&◌, ltb, List, length, IfSome, Some, None, Option, sym, refl, ap, ◌∙◌, subst, add-one, arith, below_more}
+use Rattle.std.proofs.Common.{◌≡◌, ℕ, zero, suc, ◌+◌, ◌<◌, ◌≤◌, Bool, true, false, cond, ltb, List, length, IfSome, Some, None, Option, sym, refl, ap, ◌∙◌, subst, add-one, arith, below_more}
 use Rattle.std.proofs.lemmas.Bool.Decides.{nat_tests}
 use Rattle.lookup.specs.declared.fec.Fec.{Fec}
 use Rattle.lookup.specs.Fecs.{length_of}

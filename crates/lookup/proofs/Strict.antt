@@ -1,9 +1,8 @@
 -- At most one FEC of a table whose FECs are apart has the greatest covering length. Assumes nothing.
-use Rattle.std.proofs.Common.{◌≡◌, ℕ, ◌<◌, ◌≤◌, min, Bool, true, false, leb, ◌⊎◌, List, length, Some, None, Option, sym, refl, ap, ◌∙◌, inl, inr, ⊎_elim, arith}
+use Rattle.std.proofs.Common.{◌≡◌, ℕ, ◌<◌, ◌≤◌, min, true, leb, List, length, Some, None, Option, sym, refl, ⊎_elim, arith}
 use Rattle.std.proofs.lemmas.Bool.Decides.{nat_tests, leb_tells}
 use Rattle.lookup.specs.declared.address.Address.{Address}
 use Rattle.lookup.specs.declared.address.Address.TheVariants.{V4 as addr4, V6 as addr6}
-use Rattle.lookup.specs.declared.fec.Prefix.{Prefix}
 use Rattle.lookup.specs.declared.fec.Fec.{Fec}
 use Rattle.lookup.specs.declared.fec.Fec.TheVariants.{V4 as fec4, V6 as fec6}
 use Rattle.lookup.specs.Fecs.{length_of, covers}

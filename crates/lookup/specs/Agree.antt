@@ -1,7 +1,6 @@
 -- The laws of agreement at any width, and how they carry over two halves.
-use Rattle.std.specs.Prelude.{◌≡◌, ℕ, zero, suc, ◌+◌, ◌/◌, ◌<◌, ◌≤◌, min, bit_xor, refl}
-use Rattle.std.proofs.Common.{sym, ap, ap₂, ◌∙◌, zero-le, le_refl, le_trans, le_of_eq, arith}
-use Rattle.std.proofs.Math.Nat.{le-suc, min-le_left, min-le_right}
+use Rattle.std.specs.Prelude.{◌≡◌, ℕ, zero, suc, ◌/◌, ◌≤◌, min, bit_xor, refl}
+use Rattle.std.proofs.Common.{sym, ap, ap₂, ◌∙◌, le_refl, arith}
 use Rattle.std.specs.Int.Bits.{xor_zero_l, xor_zero_r, xor_self, xor_assoc}
 use Rattle.std.proofs.lemmas.Nat.{xor_comm, xor_shr, leading_le}
 use Rattle.std.specs.Int.Count.{count_leading_zeros, leading_of_zero}

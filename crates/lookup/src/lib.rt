@@ -1,4 +1,6 @@
 // Address kinds, FECs, longest match over both kinds, and the plan that a network starts from.
+#![tactic(auto)]
+
 pub mod address;
 pub mod fec;
 pub mod ipv4;

@@ -1,7 +1,6 @@
 -- One line: what holds between the tables of its two ends and the frames on their way, and that each step keeps it. Assumes nothing.
 use Rattle.std.proofs.Common.{◌≡◌, ℕ, suc, ◌+◌, ◌-◌, ◌<◌, ◌≤◌, min, ◌⊎◌, List, [], ◌∷◌, ◌++◌, sym, refl, ap, subst, inl, inr, arith}
 use Rattle.std.proofs.lemmas.Bool.{cases_eq}
-use Rattle.std.proofs.lemmas.Bool.Decides.{nat_tests as tells}
 use Rattle.model.proofs.Logical.{Note, Good, mapping, withdraw, release, packet}
 use Rattle.model.proofs.Lists.{weigh, weigh_push, hit, hit2, hit_tells, hit2_tells, Put, none_or}
 

@@ -1,5 +1,7 @@
 // The network as a model: its tables, calls and histories, and what no history can break. Specs and proofs, and the words
 // that they share with the program.
+#![tactic(auto)]
+
 ghost use Rattle.model.specs.Promises.{NetworkSafe};
 
 pub mod cause;

@@ -1,4 +1,6 @@
 // The network: a plan and a plant, started, and the five calls.
+#![tactic(auto)]
+
 mod arriving;
 pub mod asking;
 pub mod calls;

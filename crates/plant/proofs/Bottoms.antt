@@ -1,5 +1,5 @@
 -- A plant whose ports are its lines: its future, from what its calls do to the lists. Assumes nothing.
-use Rattle.std.proofs.Common.{◌≡◌, ℕ, zero, suc, ◌+◌, ◌<◌, ◌≤◌, Bool, true, false, cond, eqb, ◌≢◌, ◌⊎◌, List, [], ◌∷◌, ◌++◌, length, Ok, Err, Result, sym, refl, ap, ◌∙◌, subst, ap₂, inl, inr, ⊎_elim, arith}
+use Rattle.std.proofs.Common.{◌≡◌, ℕ, ◌≤◌, cond, eqb, ◌≢◌, List, [], ◌∷◌, ◌++◌, length, Ok, Err, Result, sym, refl, ap, ◌∙◌, subst, ap₂, ⊎_elim, arith}
 use Rattle.std.proofs.lemmas.Bool.{cases_eq, cond-true, cond-false, eq-eqb, ne_eqb, cases_lt}
 use Rattle.std.proofs.lemmas.List.{nil_from_length}
 use Rattle.frame.specs.declared.frame.Frame.{Frame}
@@ -9,7 +9,7 @@ use Rattle.plant.specs.declared.outcome.Outcome.{Outcome}
 use Rattle.plant.specs.declared.outcome.Outcome.TheVariants.{Idle, Moved, Handed}
 use Rattle.plant.specs.Plants.{PlantValue, Shape}
 use Rattle.plant.specs.Answers.{Joins, Hands, Sends, Polled, Busy}
-use Rattle.plant.specs.Futures.{Call, sent, polled, Turn, idle, handed, Future, after, after_send, turn_is, stepped, behind, oldest, bottom_value, bottom_future}
+use Rattle.plant.specs.Futures.{Call, sent, polled, handed, after, after_send, turn_is, stepped, behind, oldest, bottom_value, bottom_future}
 
 -- one list is rewritten, the others stay
 one_list : (q r : ℕ → List FrameValue) (f : List FrameValue → List FrameValue) (l : ℕ) → r l ≡ f (q l) → ((k : ℕ) → k ≢ l → r k ≡ q k) → (k : ℕ) → r k ≡ cond (eqb k l) (f (q k)) (q k)

@@ -1,8 +1,8 @@
 -- The laws after a step, from the laws before it. Assumes nothing.
-use Rattle.std.proofs.Common.{◌≡◌, ℕ, zero, suc, ◌+◌, ◌<◌, ◌≤◌, Bool, true, false, cond, eqb, ltb, leb, ◌≢◌, ◌⊎◌, List, [], ◌∷◌, ◌++◌, length, Some, None, Option, sym, refl, ap, ◌∙◌, subst, ap₂, inl, inr, ⊎_elim, add-one, arith, length-append}
+use Rattle.std.proofs.Common.{◌≡◌, ℕ, ◌+◌, ◌<◌, ◌≤◌, Bool, true, false, cond, ltb, leb, [], ◌∷◌, length, Some, None, Option, sym, refl, ap, ◌∙◌, subst, ⊎_elim, add-one, arith, length-append}
 use Rattle.std.proofs.lemmas.Bool.{cases_eq, leb-false, ltb-false, lt-leb, le-leb, le-ltb, lt-ltb}
 use Rattle.frame.specs.Frames.{FrameValue}
-use Rattle.plant.specs.Plants.{PlantValue, Shape, Lawful, ShapeLaws, LineLaws, over_kept, total, sum_to}
+use Rattle.plant.specs.Plants.{PlantValue, Shape, Lawful, over_kept, total, sum_to}
 use Rattle.plant.specs.Answers.{send_refusal, Joins, Moves, Hands}
 use Rattle.plant.proofs.Sums.{sum_same, sum_one}
 

@@ -1,5 +1,5 @@
 -- What a plant answers, call by call, where that is known. Assumes nothing.
-use Rattle.std.specs.Prelude.{◌≡◌, ℕ, zero, suc, ◌+◌, Bool, true, false, cond, List, [], ◌∷◌, ◌++◌, length, Some, None, Ok, Err, Option, Result, ◌==◌}
+use Rattle.std.specs.Prelude.{ℕ, cond, List, [], ◌∷◌, ◌++◌, length, Some, None, Ok, Err, Option, Result, ◌==◌}
 use Rattle.frame.specs.Frames.{FrameValue}
 use Rattle.frame.specs.declared.refusal.Refusal.{Refusal}
 use Rattle.plant.specs.declared.outcome.Outcome.{Outcome}

@@ -1,4 +1,6 @@
 // The plant contract: what every carrier of frames means, obeys and answers.
+#![tactic(auto)]
+
 pub mod label;
 pub mod outcome;
 pub mod partner;

@@ -1,4 +1,6 @@
 // The rows that a rehearsal gives: faults of the file, packets and totals, and their text.
+#![tactic(auto)]
+
 pub mod making;
 pub mod row;
 pub mod text;

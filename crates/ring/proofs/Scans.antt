@@ -1,5 +1,5 @@
 -- The rules of links, link by link. Assumes nothing.
-use Rattle.std.proofs.Common.{◌≡◌, ℕ, zero, suc, ◌+◌, ◌<◌, ◌≤◌, Bool, true, false, cond, not, ◌&&◌, eqb, leb, ◌≢◌, List, [], ◌∷◌, length, drop, Some, None, Option, sym, refl, ap, ◌∙◌, subst, add-one, arith, drop-cons}
+use Rattle.std.proofs.Common.{◌≡◌, ℕ, zero, suc, ◌+◌, ◌<◌, ◌≤◌, Bool, true, false, cond, not, ◌&&◌, eqb, leb, ◌≢◌, List, [], ◌∷◌, length, drop, Some, None, Option, refl, ap, ◌∙◌, add-one, arith, drop-cons}
 use Rattle.plant.proofs.Decides.{Decides, decides_le, decides_eq, decides_not, decides_and}
 use Rattle.ring.specs.declared.link.Link.{Link}
 use Rattle.ring.specs.Links.{no_link, link_at, link_refusal, links_refusal, or_else, taken, ring_refusal}

@@ -1,4 +1,6 @@
 // The ring plant: links between routers, each line a ring buffer in the caller's places, each port its line.
+#![tactic(auto)]
+
 mod buffer;
 pub mod link;
 mod make;

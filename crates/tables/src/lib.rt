@@ -1,4 +1,6 @@
 // The routers' tables: owner marks and next hops, remote labels, due releases, labels and stages.
+#![tactic(auto)]
+
 pub mod asking;
 pub mod changing;
 pub mod learning;

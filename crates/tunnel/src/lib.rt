@@ -1,4 +1,6 @@
 // A tunnel: a plant over any plant below it, with two more lines that lead along a path of lines below and back.
+#![tactic(auto)]
+
 mod known;
 mod making;
 mod path;

@@ -4,17 +4,17 @@ use Rattle.lookup.specs.Fecs.{covers_by}
 use Rattle.lookup.proofs.Longest.{low_to, one_more, best_all}
 use Rattle.lookup.proofs.matching.longest_match.Goals as goal
 
-pub best-with-best-requires : goal.best-with-best-requires
-best-with-best-requires g c =
+pub best_with-best-requires : goal.best_with-best-requires
+best_with-best-requires g c =
     let test : Fec → Bool = covers_by g.T.AddressKind.agrees g.T.AddressKind.held c.args.address.now in
     (omega arith, low_to test c.args.table.now c.loop-i.i c.loop-i.best c.loop-i.invariant (omega arith))
 
 pub loop-i-preserved : goal.loop-i-preserved
 loop-i-preserved g c =
     let test : Fec → Bool = covers_by g.T.AddressKind.agrees g.T.AddressKind.held c.args.address.now in
-    one_more test c.args.table.now c.loop-i.i c.loop-i.best c.best-with-best.result
-    c.covered-is-covered.result c.loop-i.invariant
-    c.covered-is-covered.ensures c.best-with-best.ensures
+    one_more test c.args.table.now c.loop-i.i c.loop-i.best c.best_with-best.result
+    c.covered-is_covered.result c.loop-i.invariant
+    c.covered-is_covered.ensures c.best_with-best.ensures
 
 pub returns : goal.returns
 returns g c =

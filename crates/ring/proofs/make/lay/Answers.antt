@@ -1,24 +1,24 @@
 use Rattle.std.proofs.Common.{◌≡◌, ◌+◌, ◌*◌, ◌<◌, length, sym, refl, ap, ◌∙◌, subst, arith, length-set}
 use Rattle.ring.specs.Links.{link_at, taken}
 use Rattle.ring.specs.Laid.{Laid}
-use Rattle.ring.proofs.Scans.{LinkOk, links_ok}
+use Rattle.ring.proofs.Scans.{links_ok}
 use Rattle.ring.proofs.Laying.{laid_more, laid_none, taken_more, line_to, lines_more, lines_all, lines_none, bare_rows}
 use Rattle.ring.proofs.make.lay.Goals as goal
 
 pub loop-i-init : goal.loop-i-init
 loop-i-init c = (refl, refl, omega arith, laid_none _, λ k. bare_rows 32 k ∙ sym (lines_none c.args.links.now k))
 
-pub overflow-add-rows : goal.overflow-add-rows
-overflow-add-rows c =
+pub overflow_add-rows : goal.overflow_add-rows
+overflow_add-rows c =
     let ok = links_ok c.args.links.now c.requires.links c.loop-i.i c.loop-i-test.true in
     omega (arith, ok.cap_most, c.requires.few, c.loop-i.invariant.2)
 
-pub overflow-mul-base : goal.overflow-mul-base
-overflow-mul-base c =
+pub overflow_mul-base : goal.overflow_mul-base
+overflow_mul-base c =
     let ok = links_ok c.args.links.now c.requires.links c.loop-i.i c.loop-i-test.true in omega (arith, ok.cap_most)
 
-pub overflow-add-base : goal.overflow-add-base
-overflow-add-base c =
+pub overflow_add-base : goal.overflow_add-base
+overflow_add-base c =
     let ok = links_ok c.args.links.now c.requires.links c.loop-i.i c.loop-i-test.true in
     omega (arith, ok.cap_most, c.requires.few, c.loop-i.invariant.2)
 

@@ -5,8 +5,8 @@ use Rattle.book.proofs.book.Book.append.Goals as goal
 pub push-requires : goal.push-requires
 push-requires g c = search (rules, length-map)
 
-pub invariant-of-self : goal.invariant-of-self
-invariant-of-self g c = search (rules, length-map, length_push)
+pub invariant_of-self : goal.invariant_of-self
+invariant_of-self g c = search (rules, length-map, length_push)
 
 pub returns : goal.returns
 returns g c = search (rules, map_push)

@@ -7,8 +7,8 @@ use Rattle.labels.specs.Reading.{labelled}
 use Rattle.labels.proofs.Settling.{settled_put, statuses_put, taken_put, open_is_free}
 use Rattle.labels.proofs.labels.Labels.bind_first.Goals as goal
 
-pub invariant-of-self : goal.invariant-of-self
-invariant-of-self c =
+pub invariant_of-self : goal.invariant_of-self
+invariant_of-self c =
     let s = c.args.self.now in
     let g = c.in-Some.granted in
     let r = c.args.router in
@@ -16,7 +16,7 @@ invariant-of-self c =
     let q = c.bind.new.self in
     let took = c.in-Some.ensures in
     let is = taken_put s.pool c.take.new.self q r g.router g.label x took.0 took.2 c.bind.ensures in
-    (settled_put s.pool q r g.label x is s.settled refl, tt)
+    record { settled = settled_put s.pool q r g.label x is s.settled refl }
 
 pub returns-in-Some : goal.returns-in-Some
 returns-in-Some c =

@@ -7,28 +7,28 @@ use Rattle.labels.proofs.Settling.{settled_put, statuses_put}
 use Rattle.labels.proofs.Shapes.{tidy_frees, tidy_rests}
 use Rattle.labels.proofs.labels.Labels.tidy.Goals as goal
 
-pub invariant-of-self : goal.invariant-of-self
-invariant-of-self c =
+pub invariant_of-self : goal.invariant_of-self
+invariant_of-self c =
     let s = c.args.self.now in
-    (settled_put s.pool c.free.new.self c.args.router c.args.label Free c.free.ensures s.settled refl, tt)
+    record { settled = settled_put s.pool c.free.new.self c.args.router c.args.label Free c.free.ensures s.settled refl }
 
-pub returns-then-is-done : goal.returns-then-is-done
-returns-then-is-done c =
+pub returns-then-is_done : goal.returns-then-is_done
+returns-then-is_done c =
     let s = c.args.self.now in
     let r = c.args.router in
     let l = c.args.label in
     record {
       tidied = λ S t w.
           ap (λ st. with_labels st (stages_of s.stages) t) (statuses_put s.pool c.free.new.self r l Free c.free.ensures)
-          ∙ tidy_frees s.wiring S w r l (labelled s t) (sym c.is-done.ensures ∙ c.if-is-done.true);
+          ∙ tidy_frees s.wiring S w r l (labelled s t) (sym c.is_done.ensures ∙ c.if-is_done.true);
       kept = refl;
     }
 
-pub returns-else-is-done : goal.returns-else-is-done
-returns-else-is-done c =
+pub returns-else-is_done : goal.returns-else-is_done
+returns-else-is_done c =
     let s = c.args.self.now in
     record {
       tidied = λ S t w.
-          tidy_rests s.wiring S w c.args.router c.args.label (labelled s t) (sym c.is-done.ensures ∙ c.if-is-done.false);
+          tidy_rests s.wiring S w c.args.router c.args.label (labelled s t) (sym c.is_done.ensures ∙ c.if-is_done.false);
       kept = refl;
     }

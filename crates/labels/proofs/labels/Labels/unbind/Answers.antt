@@ -4,11 +4,11 @@ use Rattle.labels.specs.declared.status.Status.TheVariants.{Leaving}
 use Rattle.labels.proofs.Settling.{settled_put, statuses_put}
 use Rattle.labels.proofs.labels.Labels.unbind.Goals as goal
 
-pub invariant-of-self : goal.invariant-of-self
-invariant-of-self c =
+pub invariant_of-self : goal.invariant_of-self
+invariant_of-self c =
     let s = c.args.self.now in
     let x = Leaving c.args.fec in
-    (settled_put s.pool c.leave.new.self c.args.router c.args.label x c.leave.ensures s.settled refl, tt)
+    record { settled = settled_put s.pool c.leave.new.self c.args.router c.args.label x c.leave.ensures s.settled refl }
 
 pub returns : goal.returns
 returns c =

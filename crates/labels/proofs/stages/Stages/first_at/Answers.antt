@@ -4,8 +4,8 @@ use Rattle.labels.specs.Stagings.{stages_of}
 use Rattle.labels.proofs.Firsts.{label_found, label_missing}
 use Rattle.labels.proofs.stages.Stages.first_at.Goals as goal
 
-pub returns-then-is-at : goal.returns-then-is-at
-returns-then-is-at c =
+pub returns-then-is_at : goal.returns-then-is_at
+returns-then-is_at c =
     let p : ℕ → Bool = λ l. eqb (stages_of c.args.self.now c.args.line l) (stage_number c.args.stage) in
     let here : p c.loop-label.label ≡ true = search rules in
     record {

@@ -5,8 +5,8 @@ use Rattle.labels.specs.Wirings.{leads_into}
 use Rattle.labels.proofs.Firsts.{first_found, first_missing}
 use Rattle.labels.proofs.stages.Stages.is_quiet.Goals as goal
 
-pub returns-then-is-held : goal.returns-then-is-held
-returns-then-is-held c =
+pub returns-then-is_held : goal.returns-then-is_held
+returns-then-is_held c =
     let w = c.args.wiring.now in
     let sg = stages_of c.args.self.now in
     let p : ℕ → Bool = λ e. leads_into w e c.args.router && not (eqb (sg e c.args.label) untold) in

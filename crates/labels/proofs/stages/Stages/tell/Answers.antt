@@ -1,11 +1,11 @@
-use Rattle.std.proofs.Common.{◌≡◌, ℕ, Bool, sym, ap, ◌∙◌, arith}
+use Rattle.std.proofs.Common.{ℕ, Bool, sym, ap, ◌∙◌, arith}
 use Rattle.labels.specs.Numbers.{changed}
 use Rattle.labels.specs.Stagings.{stages_of}
 use Rattle.labels.specs.Wirings.{leads_into}
 use Rattle.labels.proofs.Changes.{below, below_changed, below_left}
 use Rattle.labels.proofs.Shapes.{all_changed}
 use Rattle.labels.proofs.stages.Stages.tell.Goals as goal
-use Rattle.labels.proofs.stages.Stages.tell.Goals.{then-leads-into, else-leads-into}
+use Rattle.labels.proofs.stages.Stages.tell.Goals.{then-leads_into, else-leads_into}
 
 pub loop-line-preserved : goal.loop-line-preserved
 loop-line-preserved c =
@@ -14,13 +14,13 @@ loop-line-preserved c =
     let h = stages_of c.loop-line.self in
     let by = changed c.args.news in
     let here = c.loop-line.line in
-    elim c.if-leads-into.branch [
-      | then-leads-into w ↦
-          below_changed into c.args.label by g h here c.loop-line.invariant (stages_of c.if-leads-into.self)
-          (sym c.leads-into.ensures ∙ w.if-leads-into.true) (ap stages_of w.self-is ∙ w.tell-on.ensures)
-      | else-leads-into w ↦ λ e k.
+    elim c.if-leads_into.branch [
+      | then-leads_into w ↦
+          below_changed into c.args.label by g h here c.loop-line.invariant (stages_of c.if-leads_into.self)
+          (sym c.leads_into.ensures ∙ w.if-leads_into.true) (ap stages_of w.self-is ∙ w.tell_on.ensures)
+      | else-leads_into w ↦ λ e k.
           ap (λ z. stages_of z e k) w.self-is
-          ∙ below_left into c.args.label by g h here c.loop-line.invariant (sym c.leads-into.ensures ∙ w.if-leads-into.false) e k
+          ∙ below_left into c.args.label by g h here c.loop-line.invariant (sym c.leads_into.ensures ∙ w.if-leads_into.false) e k
     ]
 
 pub returns : goal.returns

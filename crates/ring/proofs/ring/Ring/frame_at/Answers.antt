@@ -1,4 +1,4 @@
-use Rattle.std.proofs.Common.{◌≡◌, ◌+◌, ◌<◌, map, length, get_or, vec_items, sym, ap, ◌∙◌, arith}
+use Rattle.std.proofs.Common.{◌+◌, ◌<◌, map, length, get_or, vec_items, sym, ap, ◌∙◌, arith}
 use Rattle.std.proofs.lemmas.List.{get_or-map}
 use Rattle.frame.specs.Frames.{frame_value}
 use Rattle.plant.specs.Questions.{no_frame}
@@ -7,14 +7,14 @@ use Rattle.ring.specs.Runs.{run_get}
 use Rattle.ring.specs.Steps.{here, place_used, place_inside}
 use Rattle.ring.proofs.ring.Ring.frame_at.Goals as goal
 
-pub overflow-add-row : goal.overflow-add-row
-overflow-add-row c =
+pub overflow_add-row : goal.overflow_add-row
+overflow_add-row c =
     let s = c.args.self.now in
     let o = c.requires.sound.row c.args.line c.requires.line in
     omega (arith, place_used s.rows s.lines (vec_items s.places) c.requires.sound c.args.line c.requires.line c.args.place c.requires.place, o.head, o.len, o.cap_most)
 
-pub overflow-add-row-2 : goal.overflow-add-row-2
-overflow-add-row-2 c =
+pub overflow_add-row-2 : goal.overflow_add-row-2
+overflow_add-row-2 c =
     let s = c.args.self.now in
     omega (arith, place_inside s.rows s.lines (vec_items s.places) c.requires.sound c.args.line c.requires.line c.args.place c.requires.place, c.wrapped.ensures)
 

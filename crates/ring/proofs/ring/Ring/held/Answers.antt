@@ -1,4 +1,4 @@
-use Rattle.std.proofs.Common.{vec_items, sym, rules}
+use Rattle.std.proofs.Common.{vec_items, sym}
 use Rattle.ring.specs.Steps.{long}
 use Rattle.ring.proofs.ring.Ring.held.Goals as goal
 

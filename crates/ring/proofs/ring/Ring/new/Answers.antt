@@ -1,4 +1,4 @@
-use Rattle.std.proofs.Common.{◌≡◌, ◌*◌, ◌≤◌, length, replicate, vec_items, vec_len, sym, ap, ◌∙◌, subst, arith, rules}
+use Rattle.std.proofs.Common.{◌*◌, length, replicate, vec_items, vec_len, sym, ap, ◌∙◌, arith, rules}
 use Rattle.ring.specs.Links.{ring_refusal, unless_refused, taken}
 use Rattle.ring.specs.Rows.{no_row}
 use Rattle.ring.proofs.Scans.{ring_ok}

@@ -1,4 +1,4 @@
-use Rattle.std.proofs.Common.{◌≡◌, ◌<◌, ◌≢◌, length, vec_items, sym, ap, ◌∙◌, arith}
+use Rattle.std.proofs.Common.{◌<◌, ◌≢◌, length, vec_items, arith}
 use Rattle.frame.specs.Frames.{frame_value}
 use Rattle.ring.specs.Rows.{row_at}
 use Rattle.ring.specs.Rings.{lists_of}
