@@ -92,10 +92,6 @@ module _ (p : Path) (v w : PlantValue) (lv : Lawful v) (lw : Lawful w) (ok : Tun
           let flat = shallow_joined w u (shallow_handed v w ok.shallow (x.at k) f h.1) (x.at n) g there.deep j in
           (kept_moved p v u lu ok (j.shape ∙ h.1.shape) flat m (c ∙ sym a), (h.0, refl, refl, m))
 
-pub lawful_of : (e : Option Refusal) (p : Path) (v : PlantValue) → Kept e p v → Lawful v → Lawful (meaning e p v)
-lawful_of (Some e) p v k law = law
-lawful_of None p v k law = k.lawful
-
 -- What is known when the plant below has been polled: v, o and w, n are its value and future before and after that.
 pub record Below (p : Path) (v w : PlantValue) (o n : Option Future) (port : ℕ) (old new : Frame) (out : Outcome) (l : ℕ) : Type 0 where
   pub lv : Lawful v

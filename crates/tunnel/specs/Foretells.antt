@@ -7,13 +7,13 @@ use Rattle.frame.specs.declared.frame.Frame.{Frame}
 use Rattle.frame.specs.declared.refusal.Refusal.{Refusal}
 use Rattle.frame.specs.Frames.{FrameValue, frame_value}
 use Rattle.plant.specs.declared.outcome.Outcome.{Outcome}
-use Rattle.plant.specs.Plants.{PlantValue}
+use Rattle.plant.specs.Plants.{PlantValue, Lawful}
 use Rattle.plant.specs.Answers.{Polled}
 use Rattle.plant.specs.Futures.{polled, Turn, Future, Foretold, after, after_send, turn_at, turn_is}
 use Rattle.tunnel.specs.declared.path.Path.{Path}
 use Rattle.tunnel.specs.declared.path.Hop.{Hop}
 use Rattle.tunnel.specs.Tunnels.{Way, forth, back, way_of, own_at, top_is, meaning}
-use Rattle.tunnel.specs.Held.{Links}
+use Rattle.tunnel.specs.Held.{Links, Kept}
 use Rattle.tunnel.specs.Onward.{own_hop, hop_at, placed, place_of, tunnel_turn, relay_of, Relayed, PollsBelow, entering, after_relay, open_future, tunnel_future}
 use Rattle.tunnel.specs.Inner.{Owned}
 use Rattle.tunnel.specs.Paths.{forth_apart, back_apart, forth_back}
@@ -105,3 +105,8 @@ pub tells_value : (p : Path) (e : Option Refusal) (o : Option Future) (v : Plant
 tells_value p e None v h = tt
 tells_value p (Some e) (Some b) v h = h
 tells_value p None (Some b) v h = ap (meaning None p) h
+
+-- a tunnel is lawful where the plant below is
+pub lawful_of : (e : Option Refusal) (p : Path) (v : PlantValue) → Kept e p v → Lawful v → Lawful (meaning e p v)
+lawful_of (Some e) p v k law = law
+lawful_of None p v k law = k.lawful

@@ -53,13 +53,13 @@ abbrev pub popped : FrameValue → FrameValue
 popped f = record { kind = f.kind; stack = rest_of f.stack; a = f.a; b = f.b }
 
 -- an own frame of a way: on the line of one of the first n hops, with that hop's label
-abbrev pub field_own : Way → ℕ → ℕ → FrameValue → Bool
-field_own w zero l f = false
-field_own w (suc i) l f = cond (w.at i == l) (top_is (w.label i) f) (field_own w i l f)
+abbrev pub own_at : Way → ℕ → ℕ → FrameValue → Bool
+own_at w zero l f = false
+own_at w (suc i) l f = cond (w.at i == l) (top_is (w.label i) f) (own_at w i l f)
 
 -- an own frame of either way
 abbrev pub own : Path → ℕ → FrameValue → Bool
-own p l f = field_own (forth p) p.len l f || field_own (back p) p.len l f
+own p l f = own_at (forth p) p.len l f || own_at (back p) p.len l f
 
 -- a line is one of the first n hops of a way
 abbrev pub on : Way → ℕ → ℕ → Bool

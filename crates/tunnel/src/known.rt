@@ -7,9 +7,9 @@ use frame::Frame;
 use plant::Plant;
 
 pub(crate) fn ends_of<P: Plant>(plant: &P, line: usize) -> (usize, usize)
-    requires sound { sound plant.now }
-    requires line { line < (value plant.now).shape.lines }
-    ensures { (result.0 ≡ ((value plant.now).shape.line line).from) × (result.1 ≡ ((value plant.now).shape.line line).to) }
+    requires sound { P.sound plant.now }
+    requires line { line < (P.value plant.now).shape.lines }
+    ensures { (result.0 ≡ ((P.value plant.now).shape.line line).from) × (result.1 ≡ ((P.value plant.now).shape.line line).to) }
 {
     match plant.ends(line) {
         Some(ends) => ends,
@@ -18,9 +18,9 @@ pub(crate) fn ends_of<P: Plant>(plant: &P, line: usize) -> (usize, usize)
 }
 
 pub(crate) fn cap_of<P: Plant>(plant: &P, line: usize) -> usize
-    requires sound { sound plant.now }
-    requires line { line < (value plant.now).shape.lines }
-    ensures { result ≡ ((value plant.now).shape.line line).cap }
+    requires sound { P.sound plant.now }
+    requires line { line < (P.value plant.now).shape.lines }
+    ensures { result ≡ ((P.value plant.now).shape.line line).cap }
 {
     match plant.cap(line) {
         Some(cap) => cap,
@@ -29,9 +29,9 @@ pub(crate) fn cap_of<P: Plant>(plant: &P, line: usize) -> usize
 }
 
 pub(crate) fn span_of<P: Plant>(plant: &P, line: usize) -> usize
-    requires sound { sound plant.now }
-    requires line { line < (value plant.now).shape.lines }
-    ensures { result ≡ ((value plant.now).shape.line line).span }
+    requires sound { P.sound plant.now }
+    requires line { line < (P.value plant.now).shape.lines }
+    ensures { result ≡ ((P.value plant.now).shape.line line).span }
 {
     match plant.span(line) {
         Some(span) => span,
@@ -40,9 +40,9 @@ pub(crate) fn span_of<P: Plant>(plant: &P, line: usize) -> usize
 }
 
 pub(crate) fn waits_of<P: Plant>(plant: &P, line: usize) -> usize
-    requires sound { sound plant.now }
-    requires line { line < (value plant.now).shape.lines }
-    ensures { result ≡ length ((value plant.now).waiting line) }
+    requires sound { P.sound plant.now }
+    requires line { line < (P.value plant.now).shape.lines }
+    ensures { result ≡ length ((P.value plant.now).waiting line) }
 {
     match plant.waits(line) {
         Some(waits) => waits,
@@ -51,10 +51,10 @@ pub(crate) fn waits_of<P: Plant>(plant: &P, line: usize) -> usize
 }
 
 pub(crate) fn frame_of<P: Plant>(plant: &P, line: usize, place: usize) -> Frame
-    requires sound { sound plant.now }
-    requires line { line < (value plant.now).shape.lines }
-    requires place { place < length ((value plant.now).waiting line) }
-    ensures { frame_value result ≡ slice_index_or ((value plant.now).waiting line) place no_frame }
+    requires sound { P.sound plant.now }
+    requires line { line < (P.value plant.now).shape.lines }
+    requires place { place < length ((P.value plant.now).waiting line) }
+    ensures { frame_value result ≡ slice_index_or ((P.value plant.now).waiting line) place no_frame }
 {
     match plant.waiting(line, place) {
         Some(frame) => frame,

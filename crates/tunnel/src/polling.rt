@@ -21,14 +21,14 @@ pub(crate) fn poll_open<P: Plant>(
     port: usize,
     place: &mut Frame,
 ) -> (Outcome, usize)
-    requires sound { sound below.old }
-    requires opened { TunnelOk path.now (value below.old) }
-    ensures sound { sound below.new }
-    ensures opened { TunnelOk path.now (value below.new) }
-    ensures polls { Polls (tunnel_value path.now (value below.old)) port place.old result place.new (tunnel_value path.now (value below.new)) }
-    ensures relayed { PollsBelow None path.now (value below.old) port place.old (turn_of result place.new) (value below.new) }
-    ensures turn { Foretold (option_map (open_future path.now) (future below.old)) (λ b. turn_at b port ≡ turn_of result place.new) }
-    ensures future { option_map (open_future path.now) (future below.new) ≡ option_map (λ b. after b (polled port)) (option_map (open_future path.now) (future below.old)) }
+    requires sound { P.sound below.old }
+    requires opened { TunnelOk path.now (P.value below.old) }
+    ensures sound { P.sound below.new }
+    ensures opened { TunnelOk path.now (P.value below.new) }
+    ensures polls { Polls (tunnel_value path.now (P.value below.old)) port place.old result place.new (tunnel_value path.now (P.value below.new)) }
+    ensures relayed { PollsBelow None path.now (P.value below.old) port place.old (turn_of result place.new) (P.value below.new) }
+    ensures turn { Foretold (option_map (open_future path.now) (P.future below.old)) (λ b. turn_at b port ≡ turn_of result place.new) }
+    ensures future { option_map (open_future path.now) (P.future below.new) ≡ option_map (λ b. after b (polled port)) (option_map (open_future path.now) (P.future below.old)) }
 {
     let mut held = *place;
     let (outcome, line) = below.poll(port, &mut held);
@@ -53,15 +53,15 @@ fn carry_on<P: Plant>(
     mut held: Frame,
     place: &mut Frame,
 ) -> (Outcome, usize)
-    requires sound { sound below.old }
+    requires sound { P.sound below.old }
     requires links { Links path.now }
     requires few { path.now.below < 48 }
     requires hop { hop.index < path.now.len }
     requires high { 80 ≤ path.now.base }
-    requires room { hop.index + 1 < path.now.len → send_refusal (value below.old) (next_line path.now hop) (next_frame path.now hop (frame_value held)) ≡ None }
-    ensures sound { sound below.new }
-    ensures carried { Carried result.0 path.now hop (frame_value held) (value below.old) result.1 place.old place.new (value below.new) }
-    ensures future { CarriedOn result.0 path.now hop (frame_value held) (future below.old) (future below.new) }
+    requires room { hop.index + 1 < path.now.len → send_refusal (P.value below.old) (next_line path.now hop) (next_frame path.now hop (frame_value held)) ≡ None }
+    ensures sound { P.sound below.new }
+    ensures carried { Carried result.0 path.now hop (frame_value held) (P.value below.old) result.1 place.old place.new (P.value below.new) }
+    ensures future { CarriedOn result.0 path.now hop (frame_value held) (P.future below.old) (P.future below.new) }
 {
     if hop.index + 1 < path.len {
         relay(below, path, hop, held);
@@ -74,14 +74,14 @@ fn carry_on<P: Plant>(
 
 // Sends an own frame on to the next hop, where there is room for it.
 fn relay<P: Plant>(below: &mut P, path: &Path, hop: Hop, held: Frame)
-    requires sound { sound below.old }
+    requires sound { P.sound below.old }
     requires links { Links path.now }
     requires high { 80 ≤ path.now.base }
     requires next { hop.index + 1 < path.now.len }
-    requires room { send_refusal (value below.old) (next_line path.now hop) (next_frame path.now hop (frame_value held)) ≡ None }
-    ensures sound { sound below.new }
-    ensures joins { Joins (value below.old) (next_line path.now hop) (next_frame path.now hop (frame_value held)) (value below.new) }
-    ensures future { future below.new ≡ option_map (λ b. after b (sent (next_line path.now hop) (next_frame path.now hop (frame_value held)))) (future below.old) }
+    requires room { send_refusal (P.value below.old) (next_line path.now hop) (next_frame path.now hop (frame_value held)) ≡ None }
+    ensures sound { P.sound below.new }
+    ensures joins { Joins (P.value below.old) (next_line path.now hop) (next_frame path.now hop (frame_value held)) (P.value below.new) }
+    ensures future { P.future below.new ≡ option_map (λ b. after b (sent (next_line path.now hop) (next_frame path.now hop (frame_value held)))) (P.future below.old) }
 {
     let next = path.at(hop.back, hop.index + 1);
     let onward = relabel(held, path.label(hop.back, hop.index + 1));

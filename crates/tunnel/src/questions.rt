@@ -13,11 +13,11 @@ use frame::Frame;
 use plant::Plant;
 
 pub(crate) fn line_ends<P: Plant>(below: &P, path: &Path, line: usize) -> (usize, usize)
-    requires sound { sound below.now }
-    requires opened { TunnelOk path.now (value below.now) }
+    requires sound { P.sound below.now }
+    requires opened { TunnelOk path.now (P.value below.now) }
     requires line { line < path.now.below + 2 }
-    ensures from { result.0 ≡ ((tunnel_value path.now (value below.now)).shape.line line).from }
-    ensures to { result.1 ≡ ((tunnel_value path.now (value below.now)).shape.line line).to }
+    ensures from { result.0 ≡ ((tunnel_value path.now (P.value below.now)).shape.line line).from }
+    ensures to { result.1 ≡ ((tunnel_value path.now (P.value below.now)).shape.line line).to }
 {
     if line < path.below {
         return ends_of(below, line);
@@ -29,10 +29,10 @@ pub(crate) fn line_ends<P: Plant>(below: &P, path: &Path, line: usize) -> (usize
 }
 
 pub(crate) fn line_cap<P: Plant>(below: &P, path: &Path, line: usize) -> usize
-    requires sound { sound below.now }
-    requires opened { TunnelOk path.now (value below.now) }
+    requires sound { P.sound below.now }
+    requires opened { TunnelOk path.now (P.value below.now) }
     requires line { line < path.now.below + 2 }
-    ensures { result ≡ ((tunnel_value path.now (value below.now)).shape.line line).cap }
+    ensures { result ≡ ((tunnel_value path.now (P.value below.now)).shape.line line).cap }
 {
     if line >= path.below {
         return path.window;
@@ -46,10 +46,10 @@ pub(crate) fn line_cap<P: Plant>(below: &P, path: &Path, line: usize) -> usize
 }
 
 pub(crate) fn line_span<P: Plant>(below: &P, path: &Path, line: usize) -> usize
-    requires sound { sound below.now }
-    requires opened { TunnelOk path.now (value below.now) }
+    requires sound { P.sound below.now }
+    requires opened { TunnelOk path.now (P.value below.now) }
     requires line { line < path.now.below + 2 }
-    ensures { result ≡ ((tunnel_value path.now (value below.now)).shape.line line).span }
+    ensures { result ≡ ((tunnel_value path.now (P.value below.now)).shape.line line).span }
 {
     if line < path.below {
         return span_of(below, line);
@@ -58,10 +58,10 @@ pub(crate) fn line_span<P: Plant>(below: &P, path: &Path, line: usize) -> usize
 }
 
 pub(crate) fn line_waits<P: Plant>(below: &P, path: &Path, line: usize) -> usize
-    requires sound { sound below.now }
-    requires opened { TunnelOk path.now (value below.now) }
+    requires sound { P.sound below.now }
+    requires opened { TunnelOk path.now (P.value below.now) }
     requires line { line < path.now.below + 2 }
-    ensures { result ≡ length ((tunnel_value path.now (value below.now)).waiting line) }
+    ensures { result ≡ length ((tunnel_value path.now (P.value below.now)).waiting line) }
 {
     if line < path.below {
         return match path.mark(line) {
@@ -79,11 +79,11 @@ pub(crate) fn line_waits<P: Plant>(below: &P, path: &Path, line: usize) -> usize
 
 // The frame at a place of a line's list.
 pub(crate) fn line_frame<P: Plant>(below: &P, path: &Path, line: usize, place: usize) -> Frame
-    requires sound { sound below.now }
-    requires opened { TunnelOk path.now (value below.now) }
+    requires sound { P.sound below.now }
+    requires opened { TunnelOk path.now (P.value below.now) }
     requires line { line < path.now.below + 2 }
-    requires place { place < length ((tunnel_value path.now (value below.now)).waiting line) }
-    ensures { frame_value result ≡ slice_index_or ((tunnel_value path.now (value below.now)).waiting line) place no_frame }
+    requires place { place < length ((tunnel_value path.now (P.value below.now)).waiting line) }
+    ensures { frame_value result ≡ slice_index_or ((tunnel_value path.now (P.value below.now)).waiting line) place no_frame }
 {
     if line < path.below {
         return match path.mark(line) {
@@ -110,9 +110,9 @@ pub(crate) fn line_frame<P: Plant>(below: &P, path: &Path, line: usize, place: u
 
 // How many frames on a line below have a label on top.
 fn carried<P: Plant>(below: &P, line: usize, label: u32) -> usize
-    requires sound { sound below.now }
-    requires line { line < (value below.now).shape.lines }
-    ensures { result ≡ length (keep (top_is label) ((value below.now).waiting line)) }
+    requires sound { P.sound below.now }
+    requires line { line < (P.value below.now).shape.lines }
+    ensures { result ≡ length (keep (top_is label) ((P.value below.now).waiting line)) }
 {
     let mut n = 0;
     for i in 0..waits_of(below, line) {
@@ -125,10 +125,10 @@ fn carried<P: Plant>(below: &P, line: usize, label: u32) -> usize
 
 // The frame at a place among those on a line below that have a label on top, or among the others.
 fn nth<P: Plant>(below: &P, line: usize, label: u32, own: bool, at: usize) -> Frame
-    requires sound { sound below.now }
-    requires line { line < (value below.now).shape.lines }
-    requires at { at < length (keep (picks own label) ((value below.now).waiting line)) }
-    ensures { frame_value result ≡ slice_index_or (keep (picks own label) ((value below.now).waiting line)) at no_frame }
+    requires sound { P.sound below.now }
+    requires line { line < (P.value below.now).shape.lines }
+    requires at { at < length (keep (picks own label) ((P.value below.now).waiting line)) }
+    ensures { frame_value result ≡ slice_index_or (keep (picks own label) ((P.value below.now).waiting line)) at no_frame }
 {
     let mut seen = 0;
     for i in 0..waits_of(below, line) {

@@ -23,9 +23,9 @@ fn in_range(path: &Path) -> bool
 
 // Whether the path's lines exist.
 fn exist<P: Plant>(below: &P, path: &Path) -> bool
-    requires sound { sound below.now }
+    requires sound { P.sound below.now }
     requires few { path.now.len ≤ 8 }
-    ensures { MatchBool result (Exist (value below.now).shape path.now) (Exist (value below.now).shape path.now → ⊥) }
+    ensures { MatchBool result (Exist (P.value below.now).shape path.now) (Exist (P.value below.now).shape path.now → ⊥) }
 {
     for i in 0..path.len {
         if path.lines[i] >= below.lines() {
@@ -37,10 +37,10 @@ fn exist<P: Plant>(below: &P, path: &Path) -> bool
 
 // Whether each line begins where the one before ends.
 fn chained<P: Plant>(below: &P, path: &Path) -> bool
-    requires sound { sound below.now }
+    requires sound { P.sound below.now }
     requires few { path.now.len ≤ 8 }
-    requires exist { Exist (value below.now).shape path.now }
-    ensures { MatchBool result (Chained (value below.now).shape path.now) (Chained (value below.now).shape path.now → ⊥) }
+    requires exist { Exist (P.value below.now).shape path.now }
+    ensures { MatchBool result (Chained (P.value below.now).shape path.now) (Chained (P.value below.now).shape path.now → ⊥) }
 {
     for i in 1..path.len {
         if ends_of(below, path.lines[i]).0 != ends_of(below, path.lines[i - 1]).1 {
@@ -79,11 +79,11 @@ fn apart(path: &Path) -> bool
 
 // Whether the path ends elsewhere than it begins.
 fn open_ended<P: Plant>(below: &P, path: &Path) -> bool
-    requires sound { sound below.now }
+    requires sound { P.sound below.now }
     requires some { 1 ≤ path.now.len }
     requires few { path.now.len ≤ 8 }
-    requires exist { Exist (value below.now).shape path.now }
-    ensures { MatchBool result (Open (value below.now).shape path.now) (Open (value below.now).shape path.now → ⊥) }
+    requires exist { Exist (P.value below.now).shape path.now }
+    ensures { MatchBool result (Open (P.value below.now).shape path.now) (Open (P.value below.now).shape path.now → ⊥) }
 {
     if ends_of(below, path.lines[0]).0 == ends_of(below, path.lines[path.len - 1]).1 {
         return false;
@@ -93,8 +93,8 @@ fn open_ended<P: Plant>(below: &P, path: &Path) -> bool
 
 // Whether nothing waits.
 fn still<P: Plant>(below: &P) -> bool
-    requires { sound below.now }
-    ensures { MatchBool result (total (value below.now) ≡ 0) (total (value below.now) ≢ 0) }
+    requires { P.sound below.now }
+    ensures { MatchBool result (total (P.value below.now) ≡ 0) (total (P.value below.now) ≢ 0) }
 {
     for l in 0..below.lines() {
         if waits_of(below, l) > 0 {
@@ -106,10 +106,10 @@ fn still<P: Plant>(below: &P) -> bool
 
 // Whether the caps of the path's lines and of their partners exceed the window.
 fn wide<P: Plant>(below: &P, path: &Path) -> bool
-    requires sound { sound below.now }
+    requires sound { P.sound below.now }
     requires few { path.now.len ≤ 8 }
-    requires exist { Exist (value below.now).shape path.now }
-    ensures { MatchBool result (Wide (value below.now).shape path.now) (Wide (value below.now).shape path.now → ⊥) }
+    requires exist { Exist (P.value below.now).shape path.now }
+    ensures { MatchBool result (Wide (P.value below.now).shape path.now) (Wide (P.value below.now).shape path.now → ⊥) }
 {
     for i in 0..path.len {
         if cap_of(below, path.lines[i]) <= path.window {
@@ -124,10 +124,10 @@ fn wide<P: Plant>(below: &P, path: &Path) -> bool
 
 // The spans of a direction, added up.
 pub(crate) fn travelled<P: Plant>(below: &P, path: &Path, back: bool) -> usize
-    requires sound { sound below.now }
+    requires sound { P.sound below.now }
     requires links { Links path.now }
-    requires exist { Exist (value below.now).shape path.now }
-    ensures { result ≡ spans (value below.now).shape (way_of back path.now) }
+    requires exist { Exist (P.value below.now).shape path.now }
+    ensures { result ≡ spans (P.value below.now).shape (way_of back path.now) }
 {
     let mut sum = 0;
     for i in 0..path.len {
@@ -138,11 +138,11 @@ pub(crate) fn travelled<P: Plant>(below: &P, path: &Path, back: bool) -> usize
 
 // Whether the lines lead on from one to the next, over each link at most once, and to another router.
 fn leads_through<P: Plant>(below: &P, path: &Path) -> bool
-    requires sound { sound below.now }
+    requires sound { P.sound below.now }
     requires some { 1 ≤ path.now.len }
     requires few { path.now.len ≤ 8 }
-    requires exist { Exist (value below.now).shape path.now }
-    ensures { MatchBool result (Through (value below.now).shape path.now) (Through (value below.now).shape path.now → ⊥) }
+    requires exist { Exist (P.value below.now).shape path.now }
+    ensures { MatchBool result (Through (P.value below.now).shape path.now) (Through (P.value below.now).shape path.now → ⊥) }
 {
     if !chained(below, path) {
         return false;
@@ -158,12 +158,12 @@ fn leads_through<P: Plant>(below: &P, path: &Path) -> bool
 
 // Whether a plant can carry a tunnel along a path.
 fn can_carry<P: Plant>(below: &P, path: &Path) -> bool
-    requires sound { sound below.now }
-    requires base { path.now.base ≡ (value below.now).shape.kept - path.now.len }
+    requires sound { P.sound below.now }
+    requires base { path.now.base ≡ (P.value below.now).shape.kept - path.now.len }
     requires range { InRange path.now }
-    requires exist { Exist (value below.now).shape path.now }
-    requires through { Through (value below.now).shape path.now }
-    ensures { MatchBool result (Able (value below.now) path.now) (Able (value below.now) path.now → ⊥) }
+    requires exist { Exist (P.value below.now).shape path.now }
+    requires through { Through (P.value below.now).shape path.now }
+    ensures { MatchBool result (Able (P.value below.now) path.now) (Able (P.value below.now) path.now → ⊥) }
 {
     if below.lines() > 46 {
         return false;
@@ -191,9 +191,9 @@ fn can_carry<P: Plant>(below: &P, path: &Path) -> bool
 
 // The first rule that a path breaks, if any.
 pub(crate) fn judge<P: Plant>(below: &P, path: &Path) -> Option<Refusal>
-    requires sound { sound below.now }
-    requires base { path.now.base ≡ (value below.now).shape.kept - path.now.len }
-    ensures { told_by result ≡ rule_broken (value below.now) path.now }
+    requires sound { P.sound below.now }
+    requires base { path.now.base ≡ (P.value below.now).shape.kept - path.now.len }
+    ensures { told_by result ≡ rule_broken (P.value below.now) path.now }
 {
     if !in_range(path) {
         return Some(Refusal::OutOfRange);

@@ -22,13 +22,13 @@ pub(crate) fn send_open<P: Plant>(
     line: usize,
     frame: Frame,
 ) -> Result<(), Refusal>
-    requires sound { sound below.old }
-    requires opened { TunnelOk path.now (value below.old) }
-    ensures sound { sound below.new }
-    ensures opened { TunnelOk path.now (value below.new) }
-    ensures sends { Sends (tunnel_value path.now (value below.old)) line (frame_value frame) result (tunnel_value path.now (value below.new)) }
-    ensures entered { Entered (entering path.now line (frame_value frame)) (value below.old) result (value below.new) }
-    ensures future { future below.new ≡ option_map (after_entry (entering path.now line (frame_value frame)) result) (future below.old) }
+    requires sound { P.sound below.old }
+    requires opened { TunnelOk path.now (P.value below.old) }
+    ensures sound { P.sound below.new }
+    ensures opened { TunnelOk path.now (P.value below.new) }
+    ensures sends { Sends (tunnel_value path.now (P.value below.old)) line (frame_value frame) result (tunnel_value path.now (P.value below.new)) }
+    ensures entered { Entered (entering path.now line (frame_value frame)) (P.value below.old) result (P.value below.new) }
+    ensures future { P.future below.new ≡ option_map (after_entry (entering path.now line (frame_value frame)) result) (P.future below.old) }
 {
     if let Some(refusal) = refuses(below, path, line, &frame) {
         return Err(refusal);
@@ -44,9 +44,9 @@ pub(crate) fn send_open<P: Plant>(
 
 // Why a frame is refused on a line, the first rule that it breaks.
 fn refuses<P: Plant>(below: &P, path: &Path, line: usize, frame: &Frame) -> Option<Refusal>
-    requires sound { sound below.now }
-    requires opened { TunnelOk path.now (value below.now) }
-    ensures { told_by result ≡ send_refusal (tunnel_value path.now (value below.now)) line (frame_value frame.now) }
+    requires sound { P.sound below.now }
+    requires opened { TunnelOk path.now (P.value below.now) }
+    ensures { told_by result ≡ send_refusal (tunnel_value path.now (P.value below.now)) line (frame_value frame.now) }
 {
     if line >= path.below + 2 {
         return Some(Refusal::NoLine);
@@ -65,10 +65,10 @@ fn refuses<P: Plant>(below: &P, path: &Path, line: usize, frame: &Frame) -> Opti
 
 // Whether as many frames wait on a line as may.
 fn is_full<P: Plant>(below: &P, path: &Path, line: usize) -> bool
-    requires sound { sound below.now }
-    requires opened { TunnelOk path.now (value below.now) }
+    requires sound { P.sound below.now }
+    requires opened { TunnelOk path.now (P.value below.now) }
     requires line { line < path.now.below + 2 }
-    ensures { result ≡ nat_le ((tunnel_value path.now (value below.now)).shape.line line).cap (length ((tunnel_value path.now (value below.now)).waiting line)) }
+    ensures { result ≡ nat_le ((tunnel_value path.now (P.value below.now)).shape.line line).cap (length ((tunnel_value path.now (P.value below.now)).waiting line)) }
 {
     line_cap(below, path, line) <= line_waits(below, path, line)
 }

@@ -7,7 +7,7 @@ ghost use Rattle.plant.specs.Futures.{Foretold, after, after_send, turn_at, poll
 ghost use Rattle.tunnel.specs.Tunnels.{meaning};
 ghost use Rattle.tunnel.specs.Held.{Kept};
 ghost use Rattle.tunnel.specs.Onward.{entering_at, Entered, turn_of, PollsBelow, tunnel_future};
-ghost use Rattle.tunnel.specs.Foretells.{tells_value};
+ghost use Rattle.tunnel.specs.Foretells.{tells_value, lawful_of};
 
 use crate::path::Path;
 use crate::polling::poll_open;
@@ -31,6 +31,8 @@ impl<P: Plant> Plant for Tunnel<P> {
     ghost future = { λ t. option_map (tunnel_future t.fault t.path) (P.Plant.future t.below) };
 
     ghost sound = { λ t. P.Plant.sound t.below × Kept t.fault t.path (P.Plant.value t.below) };
+
+    ghost lawful = { λ t s. lawful_of t.fault t.path (P.Plant.value t.below) s.1 (P.Plant.lawful t.below s.0) };
 
     ghost shows = { λ t s. tells_value t.path t.fault (P.Plant.future t.below) (P.Plant.value t.below) (P.Plant.shows t.below s.0) };
 

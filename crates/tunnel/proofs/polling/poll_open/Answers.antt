@@ -35,8 +35,8 @@ returns-in-None g c =
     let a = answer_plain b c.in-Handed.is c.in-None.ensures in
     record { sound = h.sound; opened = a.opened; polls = a.polls; relayed = a.told.relayed; turn = a.told.turn; future = a.told.future }
 
-pub carry-on-requires : goal.carry-on-requires
-carry-on-requires g c =
+pub carry_on-requires : goal.carry_on-requires
+carry_on-requires g c =
     let h = c.poll-outcome.ensures in
     let s = c.args.below.now in
     let t = c.poll-outcome.new.self in
@@ -61,7 +61,7 @@ returns-in-Some g c =
     let b : Below c.args.path.now (g.P.Plant.value s) (g.P.Plant.value t) (g.P.Plant.future s) (g.P.Plant.future t)
     c.args.port c.args.place.now c.poll-outcome.new.place c.poll-outcome.result.0 c.poll-outcome.result.1 =
     record { lv = g.met.P.Plant.lawful s c.requires.sound; lw = g.met.P.Plant.lawful t h.sound; ok = c.requires.opened; told = h.polls; turn = h.turn; then = h.future } in
-    let u = c.carry-on.new.below in
-    let a = answer_carried b c.in-Handed.is c.in-Some.hop c.in-Some.ensures (g.P.Plant.value u) (g.P.Plant.future u) (g.met.P.Plant.lawful u c.carry-on.ensures.sound)
-    c.carry-on.result.0 c.carry-on.result.1 c.carry-on.new.place c.carry-on.ensures.carried c.carry-on.ensures.future in
-    record { sound = c.carry-on.ensures.sound; opened = a.opened; polls = a.polls; relayed = a.told.relayed; turn = a.told.turn; future = a.told.future }
+    let u = c.carry_on.new.below in
+    let a = answer_carried b c.in-Handed.is c.in-Some.hop c.in-Some.ensures (g.P.Plant.value u) (g.P.Plant.future u) (g.met.P.Plant.lawful u c.carry_on.ensures.sound)
+    c.carry_on.result.0 c.carry_on.result.1 c.carry_on.new.place c.carry_on.ensures.carried c.carry_on.ensures.future in
+    record { sound = c.carry_on.ensures.sound; opened = a.opened; polls = a.polls; relayed = a.told.relayed; turn = a.told.turn; future = a.told.future }

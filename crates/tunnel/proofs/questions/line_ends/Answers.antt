@@ -9,10 +9,10 @@ returns-then-line-path g c =
     let v = g.P.Plant.value c.args.below.now in
     let lt : c.args.line < v.shape.lines = omega (arith, c.requires.opened.path.below) in
     let e = line_low c.args.path.now v.shape c.args.line lt in
-    record { from = c.ends-of.ensures.0 ∙ sym (ap (λ (n : Line). n.from) e); to = c.ends-of.ensures.1 ∙ sym (ap (λ (n : Line). n.to) e) }
+    record { from = c.ends_of.ensures.0 ∙ sym (ap (λ (n : Line). n.from) e); to = c.ends_of.ensures.1 ∙ sym (ap (λ (n : Line). n.to) e) }
 
-pub ends-of-from-requires : goal.ends-of-from-requires
-ends-of-from-requires g c =
+pub ends_of-from-requires : goal.ends_of-from-requires
+ends_of-from-requires g c =
     let p = c.args.path.now in
     let v = g.P.Plant.value c.args.below.now in
     let at : OwnLine c.args.path.now v c.args.line =
@@ -21,8 +21,8 @@ ends-of-from-requires g c =
     let a = hop_within at 0 (omega arith) in
     record { sound = c.requires.sound; line = subst (λ n. n < v.shape.lines) (sym c.at.ensures) a }
 
-pub ends-of-to-requires : goal.ends-of-to-requires
-ends-of-to-requires g c =
+pub ends_of-to-requires : goal.ends_of-to-requires
+ends_of-to-requires g c =
     let p = c.args.path.now in
     let v = g.P.Plant.value c.args.below.now in
     let at : OwnLine c.args.path.now v c.args.line =
@@ -38,8 +38,8 @@ returns g c =
     let at : OwnLine c.args.path.now v c.args.line =
     record { law = g.met.P.Plant.lawful c.args.below.now c.requires.sound; ok = c.requires.opened; own_line = c.if-line-path.false; exists = c.requires.line } in
     record {
-      from = c.ends-of-from.ensures.0 ∙ ap (λ l. (v.shape.line l).from) c.at.ensures
+      from = c.ends_of-from.ensures.0 ∙ ap (λ l. (v.shape.line l).from) c.at.ensures
           ∙ sym (way_line at (λ (n : Line). n.from));
-      to = c.ends-of-to.ensures.1 ∙ ap (λ l. (v.shape.line l).to) c.at-2.ensures
+      to = c.ends_of-to.ensures.1 ∙ ap (λ l. (v.shape.line l).to) c.at-2.ensures
           ∙ sym (way_line at (λ (n : Line). n.to));
     }

@@ -15,8 +15,8 @@ nth-requires g c =
     let e = plain_list p v c.args.line c.in-Some.label lt c.in-Some.ensures.1 in
     record { sound = c.requires.sound; line = lt; at = subst (λ xs. c.args.place < length xs) e c.requires.place }
 
-pub frame-of-requires : goal.frame-of-requires
-frame-of-requires g c =
+pub frame_of-requires : goal.frame_of-requires
+frame_of-requires g c =
     let p = c.args.path.now in
     let v = g.P.Plant.value c.args.below.now in
     let lt : c.args.line < v.shape.lines = omega (arith, c.requires.opened.path.below) in
@@ -37,7 +37,7 @@ returns-in-None g c =
     let v = g.P.Plant.value c.args.below.now in
     let lt : c.args.line < v.shape.lines = omega (arith, c.requires.opened.path.below) in
     let e = free_list p v c.args.line lt c.in-None.ensures.1 in
-    c.frame-of.ensures ∙ ap (λ xs. get_or xs c.args.place no_frame) (sym e)
+    c.frame_of.ensures ∙ ap (λ xs. get_or xs c.args.place no_frame) (sym e)
 
 pub loop-k-init : goal.loop-k-init
 loop-k-init g c =

@@ -8,7 +8,7 @@ pub returns-then-line-path : goal.returns-then-line-path
 returns-then-line-path g c =
     let v = g.P.Plant.value c.args.below.now in
     let lt : c.args.line < v.shape.lines = omega (arith, c.requires.opened.path.below) in
-    c.span-of.ensures ∙ sym (ap (λ (n : Line). n.span) (line_low c.args.path.now v.shape c.args.line lt))
+    c.span_of.ensures ∙ sym (ap (λ (n : Line). n.span) (line_low c.args.path.now v.shape c.args.line lt))
 
 pub returns : goal.returns
 returns g c =

@@ -4,13 +4,13 @@ use Rattle.tunnel.specs.Tunnels.{keep, top_is, gather, hop_frames, way_of, poppe
 use Rattle.tunnel.proofs.Reading.{OwnLine, plain_waits, free_list, hop_within, front_small, way_list}
 use Rattle.tunnel.proofs.questions.line_waits.Goals as goal
 
-pub overflow-sub-result : goal.overflow-sub-result
-overflow-sub-result g c =
+pub overflow_sub-result : goal.overflow_sub-result
+overflow_sub-result g c =
     let p = c.args.path.now in
     let v = g.P.Plant.value c.args.below.now in
     let lt : c.args.line < v.shape.lines = omega (arith, c.requires.opened.path.below) in
     let a = plain_waits p v c.args.line c.in-Some.label lt c.in-Some.ensures.1 in
-    omega (arith, a, c.carried.ensures, c.waits-of.ensures)
+    omega (arith, a, c.carried.ensures, c.waits_of.ensures)
 
 pub returns-in-Some : goal.returns-in-Some
 returns-in-Some g c =
@@ -18,14 +18,14 @@ returns-in-Some g c =
     let v = g.P.Plant.value c.args.below.now in
     let lt : c.args.line < v.shape.lines = omega (arith, c.requires.opened.path.below) in
     let a = plain_waits p v c.args.line c.in-Some.label lt c.in-Some.ensures.1 in
-    omega (arith, a, c.carried.ensures, c.waits-of.ensures)
+    omega (arith, a, c.carried.ensures, c.waits_of.ensures)
 
 pub returns-in-None : goal.returns-in-None
 returns-in-None g c =
     let p = c.args.path.now in
     let v = g.P.Plant.value c.args.below.now in
     let lt : c.args.line < v.shape.lines = omega (arith, c.requires.opened.path.below) in
-    c.waits-of-in-None.ensures ∙ ap length (sym (free_list p v c.args.line lt c.in-None.ensures.1))
+    c.waits_of-in-None.ensures ∙ ap length (sym (free_list p v c.args.line lt c.in-None.ensures.1))
 
 pub loop-i-init : goal.loop-i-init
 loop-i-init g c = refl
@@ -55,8 +55,8 @@ more g c =
     let e : length (gather f (i + 1)) ≡ length (gather f (suc i)) = ap (λ n. length (gather f n)) (add-one i) in
     omega (arith, a, b, d, e, c.loop-i.invariant)
 
-pub overflow-add-sum : goal.overflow-add-sum
-overflow-add-sum g c =
+pub overflow_add-sum : goal.overflow_add-sum
+overflow_add-sum g c =
     let p = c.args.path.now in
     let v = g.P.Plant.value c.args.below.now in
     let at : OwnLine c.args.path.now v c.args.line =

@@ -4,10 +4,10 @@ use Rattle.plant.specs.Plants.{partner}
 use Rattle.tunnel.specs.Tunnels.{hop}
 use Rattle.tunnel.proofs.rules.apart.Goals as goal
 
-pub returns-then-same-link : goal.returns-then-same-link
-returns-then-same-link c h =
+pub returns-then-same_link : goal.returns-then-same_link
+returns-then-same_link c h =
     let twice = h c.loop-i.i c.loop-j.j c.loop-i-test.true c.loop-j-test.true in
-    ⊎_elim twice.0 twice.1 c.if-same-link.ensures
+    ⊎_elim twice.0 twice.1 c.if-same_link.ensures
 
 pub loop-i-preserved : goal.loop-i-preserved
 loop-i-preserved c a b lt lt' =

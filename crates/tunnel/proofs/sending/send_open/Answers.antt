@@ -30,7 +30,7 @@ returns-then-line-path g c =
     let lw = g.met.P.Plant.lawful c.send.new.self c.send.ensures.sound in
     let f = frame_value c.args.frame in
     let lt : c.args.line < v.shape.lines = omega (arith, c.requires.opened.path.below, c.if-line-path.true) in
-    let fine = welcome (tunnel_value p v) c.args.line f (sym c.in-default.ensures) in
+    let fine = welcome (tunnel_value p v) c.args.line f (sym c.in_default.ensures) in
     let r = send_plain p v w lv lw c.requires.opened c.args.line f fine c.send.result lt c.send.ensures.sends in
     let at : entering p c.args.line f ≡ (c.args.line, f) = cond-true (ltb c.args.line p.below) _ _ (lt-ltb c.args.line p.below c.if-line-path.true) in
     record {
@@ -47,7 +47,7 @@ enter-labelled-requires g c =
     let v = g.P.Plant.value c.args.below.now in
     let lv = g.met.P.Plant.lawful c.args.below.now c.requires.sound in
     let ok = c.requires.opened.path in
-    let fine = welcome (tunnel_value p v) c.args.line (frame_value c.args.frame) (sym c.in-default.ensures) in
+    let fine = welcome (tunnel_value p v) c.args.line (frame_value c.args.frame) (sym c.in_default.ensures) in
     let deep = fine.deep in
     let most = lv.shape.depth_most in
     record { links = ok.links; some = omega (arith, ok.len_least); high = omega (arith, ok.kept); room = omega (arith, deep, most, ok.deep) }
@@ -62,7 +62,7 @@ returns g c =
     let line = c.args.line in
     let f = frame_value c.args.frame in
     let o = g.P.Plant.future c.args.below.now in
-    let fine = welcome (tunnel_value p v) line f (sym c.in-default.ensures) in
+    let fine = welcome (tunnel_value p v) line f (sym c.in_default.ensures) in
     let there : line < p.below + 2 = let a = fine.line in omega (arith, a, c.requires.opened.path.below) in
     let x = way_of (ltb p.below line) p in
     let y = way_of (not (ltb p.below line)) p in

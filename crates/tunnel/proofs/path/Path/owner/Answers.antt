@@ -4,10 +4,10 @@ use Rattle.tunnel.specs.Tunnels.{own, top_is}
 use Rattle.tunnel.specs.Paths.{own_forth, own_back, own_off, own_bare, back_at, back_label, tops_none, tops_other}
 use Rattle.tunnel.proofs.path.Path.owner.Goals as goal
 
-pub returns-in-default : goal.returns-in-default
-returns-in-default c =
+pub returns-in_default : goal.returns-in_default
+returns-in_default c =
     let f = frame_value c.args.frame.now in
-    own_bare c.args.self.now c.args.line f (λ k. tops_none k f.stack c.in-default.ensures)
+    own_bare c.args.self.now c.args.line f (λ k. tops_none k f.stack c.in_default.ensures)
 
 pub returns-in-Some-find : goal.returns-in-Some-find
 returns-in-Some-find c =
@@ -29,7 +29,7 @@ returns-else-top-self-2 c =
     ∙ ap (λ n. top_is n f) (back_label p c.requires.links i at.0)
     ∙ tops_other (p.base + i) f.stack c.in-Some.top c.in-Some.ensures c.if-top-self-2.false
 
-pub returns-in-default-find-2 : goal.returns-in-default-find-2
-returns-in-default-find-2 c =
-    own_off c.args.self.now c.requires.links c.args.line (frame_value c.args.frame.now) c.in-default-find.ensures
-    (λ i lt e. c.in-default-find-2.ensures i lt (e ∙ sym c.other.ensures))
+pub returns-in_default-find-2 : goal.returns-in_default-find-2
+returns-in_default-find-2 c =
+    own_off c.args.self.now c.requires.links c.args.line (frame_value c.args.frame.now) c.in_default-find.ensures
+    (λ i lt e. c.in_default-find-2.ensures i lt (e ∙ sym c.other.ensures))

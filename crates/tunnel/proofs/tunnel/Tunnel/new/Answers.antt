@@ -17,10 +17,10 @@ returns g c =
     let xs = c.args.path.now in
     let w = c.args.window in
     let fault = c.judge-fault.result in
-    let p : Path = record { lines = c.first-eight.result; len = length xs; window = w; below = c.lines.result; base = c.saturating-sub-base.result } in
-    let base = c.saturating-sub-base.ensures ∙ ap (λ k. k - length xs) c.kept.ensures in
+    let p : Path = record { lines = c.first_eight.result; len = length xs; window = w; below = c.lines.result; base = c.saturating_sub-base.result } in
+    let base = c.saturating_sub-base.ensures ∙ ap (λ k. k - length xs) c.kept.ensures in
     let path-is : p ≡ path_over v.shape xs w =
-    ap₂ (λ ls n. record { lines = ls; len = length xs; window = w; below = n; base = c.saturating-sub-base.result }) c.first-eight.ensures c.lines.ensures
+    ap₂ (λ ls n. record { lines = ls; len = length xs; window = w; below = n; base = c.saturating_sub-base.result }) c.first_eight.ensures c.lines.ensures
     ∙ ap (λ b. record { lines = (path_over v.shape xs w).lines; len = length xs; window = w; below = v.shape.lines; base = b }) base in
     let told = c.judge-fault.ensures ∙ ap (rule_broken v) path-is in
     record {

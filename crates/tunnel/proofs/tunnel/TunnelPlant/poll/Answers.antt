@@ -13,9 +13,9 @@ returns-in-Some g c =
 pub returns-in-None : goal.returns-in-None
 returns-in-None g c =
     let t = c.args.self.now in
-    let u = c.poll-open.new.below in
-    let h = c.poll-open.ensures in
+    let u = c.poll_open.new.below in
+    let h = c.poll_open.ensures in
     let a = poll_owes (g.P.Plant.value t.below) (g.P.Plant.value u) (g.P.Plant.future t.below) (g.P.Plant.future u)
-    c.args.port c.args.place.now c.poll-open.result.0 c.poll-open.result.1 c.poll-open.new.place
+    c.args.port c.args.place.now c.poll_open.result.0 c.poll_open.result.1 c.poll_open.new.place
     t.fault t.path c.in-None.is h.opened h.polls h.turn h.future h.relayed in
     record { sound = (h.sound, a.kept); polls = a.polls; turn = a.turn; future = a.future; relayed = a.relayed; fault = refl; path = refl }

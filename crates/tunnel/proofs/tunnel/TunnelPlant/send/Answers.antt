@@ -6,8 +6,8 @@ use Rattle.tunnel.proofs.tunnel.TunnelPlant.send.Goals as goal
 pub returns-in-None : goal.returns-in-None
 returns-in-None g c =
     let t = c.args.self.now in
-    let u = c.send-open.new.below in
-    let h = c.send-open.ensures in
-    let a = send_owes (g.P.Plant.value t.below) (g.P.Plant.value u) (g.P.Plant.future t.below) (g.P.Plant.future u) c.args.line (frame_value c.args.frame) c.send-open.result
+    let u = c.send_open.new.below in
+    let h = c.send_open.ensures in
+    let a = send_owes (g.P.Plant.value t.below) (g.P.Plant.value u) (g.P.Plant.future t.below) (g.P.Plant.future u) c.args.line (frame_value c.args.frame) c.send_open.result
     t.fault t.path c.in-None.is h.opened h.sends h.future h.entered in
     record { sound = (h.sound, a.kept); sends = a.sends; future = a.future; entered = a.entered; fault = refl; path = refl }
