@@ -1,5 +1,5 @@
 -- An array of blanks reads as blank everywhere. Assumes nothing.
-use Rattle.std.proofs.Common.{◌≡◌, ℕ, zero, suc, ◌+◌, ◌-◌, ◌*◌, Bool, true, false, cond, ◌&&◌, ltb, leb, get_or, replicate, refl, ap, ◌∙◌}
+use Rattle.std.proofs.Common.{◌≡◌, ℕ, zero, suc, ◌+◌, ◌-◌, ◌*◌, Bool, true, false, cond, ◌&&◌, ltb, leb, get_or, replicate, refl}
 use Rattle.tables.specs.Grids.{by_fec, by_label}
 
 pub get_or_blank : {X : Type 0} (k i : ℕ) (d : X) → get_or (replicate k d) i d ≡ d

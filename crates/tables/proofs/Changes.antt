@@ -1,10 +1,10 @@
 -- One change of the tables after another. Assumes nothing.
-use Rattle.std.proofs.Common.{◌≡◌, Bool, sym, ap, ◌∙◌, subst, ap₂}
+use Rattle.std.proofs.Common.{Bool, sym, ap, ◌∙◌, subst, ap₂}
 use Rattle.plant.specs.Plants.{Shape}
 use Rattle.model.specs.Tables as model
 use Rattle.labels.specs.Wirings.{Wired}
 use Rattle.tables.specs.declared.tables.Tables.{Tables}
-use Rattle.tables.specs.Reading.{tables_of, Stays, Turned, Became}
+use Rattle.tables.specs.Reading.{Stays, Turned, Became}
 
 stays_then : {s₀ s₁ s₂ : Tables} → Stays s₀ s₁ → Stays s₁ s₂ → Stays s₀ s₂
 stays_then a b = record { policy = b.policy ∙ a.policy; wiring = b.wiring ∙ a.wiring; lines = b.lines ∙ a.lines }

@@ -1,5 +1,5 @@
 -- The message that is due, found table by table. Assumes nothing.
-use Rattle.std.proofs.Common.{◌≡◌, ℕ, Some, None, Option, sym, refl, ap, ◌∙◌, arith}
+use Rattle.std.proofs.Common.{◌≡◌, ℕ, Some, None, Option, sym, refl, ap, ◌∙◌}
 use Rattle.frame.specs.declared.kind.Kind.{Kind}
 use Rattle.frame.specs.declared.kind.Kind.TheVariants.{Mapping, Withdraw, Release}
 use Rattle.plant.specs.Plants.{Shape}
@@ -7,7 +7,6 @@ use Rattle.model.specs.Tables.{Tables, first_label, is_some, the, told, withdraw
 use Rattle.model.specs.Messages.{Due, release_of, news_of, label_at_stage, due_or, next_message}
 use Rattle.model.proofs.Firsts.{never}
 use Rattle.labels.specs.declared.stage.Stage.TheVariants.{MappingDue}
-use Rattle.tables.specs.declared.message.Message.{Message}
 use Rattle.tables.specs.Grids.{with_it, first_due}
 use Rattle.tables.specs.Sending.{message_of, news_on, news_in, or_news, first_news}
 

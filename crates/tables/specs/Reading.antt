@@ -1,5 +1,5 @@
 -- What the tables of the program stand for in the model, and how they change. Assumes nothing.
-use Rattle.std.specs.Prelude.{◌≡◌, ℕ, Bool}
+use Rattle.std.specs.Prelude.{◌≡◌, Bool}
 use Rattle.plant.specs.Plants.{Shape}
 use Rattle.model.specs.Tables as model
 use Rattle.labels.specs.Wirings.{Wired}

@@ -5,11 +5,11 @@ use Rattle.model.proofs.Firsts.{first_found, first_missing}
 use Rattle.network.specs.Networks.{plan_of}
 use Rattle.network.proofs.starting.leads_out.Goals as goal
 
-pub returns-then-is-outside : goal.returns-then-is-outside
-returns-then-is-outside g c =
+pub returns-then-is_outside : goal.returns-then-is_outside
+returns-then-is_outside g c =
     let out = is_outside (plan_of c.args.plan.now) (g.P.Plant.value c.args.plant.now).shape in
     sym (ap is_some (first_found out 0 _ c.loop-line.line (omega arith) (omega (arith, c.lines-line-end.ensures, c.loop-line-test.true))
-    (sym c.is-outside.ensures ∙ c.if-is-outside.true) (λ j _ lt. c.loop-line.invariant j lt)))
+    (sym c.is_outside.ensures ∙ c.if-is_outside.true) (λ j _ lt. c.loop-line.invariant j lt)))
 
 pub returns : goal.returns
 returns g c =

@@ -8,8 +8,8 @@ returns-in-Err g c = record { sound = tt; started = tt; plant = tt; promise = ne
 
 pub returns-in-Ok : goal.returns-in-Ok
 returns-in-Ok g c = record {
-  sound = (c.requires, c.routers-of-routers.ensures.fits);
-  started = c.routers-of-routers.ensures.started;
+  sound = (c.requires, c.routers_of-routers.ensures.fits);
+  started = c.routers_of-routers.ensures.started;
   plant = refl;
   promise = network_safe _ (plan_of c.args.plan) (g.P.Plant.value c.args.plant) (g.met.P.Plant.lawful c.args.plant c.requires);
 }

@@ -17,9 +17,9 @@ pub returns : goal.returns
 returns g c =
     let n = c.args.self.now.routers in
     let v = g.P.Plant.value c.args.self.now.plant in
-    let to = same_end n v c.requires.fits c.args.line c.end-of-router.result (omega (arith, c.requires.line, c.requires.fits.wired.lines)) c.end-of-router.ensures.ends in
+    let to = same_end n v c.requires.fits c.args.line c.end_of-router.result (omega (arith, c.requires.line, c.requires.fits.wired.lines)) c.end_of-router.ensures.ends in
     record {
       sound = c.deal.ensures.sound;
-      seen = λ b. seen_packet n v c.args.line _ (sym c.awaits.ensures ∙ c.if-not-awaits.false) _ _ _ _ _ _ _ to c.top-ttl.ensures
-          (c.stack-verdict-verdict.ensures.verdict ∙ ap (λ r. by_stack (tables_of n.tables) v r (entries_of c.args.stack.now)) to) _ _ c.deal.ensures.dealt;
+      seen = λ b. seen_packet n v c.args.line _ (sym c.awaits.ensures ∙ c.if-not-awaits.false) _ _ _ _ _ _ _ to c.top_ttl.ensures
+          (c.stack_verdict-verdict.ensures.verdict ∙ ap (λ r. by_stack (tables_of n.tables) v r (entries_of c.args.stack.now)) to) _ _ c.deal.ensures.dealt;
     }

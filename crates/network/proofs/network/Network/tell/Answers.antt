@@ -20,29 +20,29 @@ returns-then-line-lines g c =
     let v = g.P.Plant.value c.args.self.now.plant in
     record { sound = c.requires; keeps = keeps_all n; did = refuses n v (tell c.args.line) c.if-self.false 6 (no_line n v c.args.line c.if-self.false (omega (arith, c.lines.ensures, c.if-line-lines.true))) }
 
-pub returns-in-default : goal.returns-in-default
-returns-in-default g c =
+pub returns-in_default : goal.returns-in_default
+returns-in_default g c =
     let n = c.args.self.now.routers in
     let v = g.P.Plant.value c.args.self.now.plant in
     record {
       sound = c.requires;
       keeps = keeps_all n;
-      did = told_none n v c.args.line c.if-self.false (omega (arith, c.lines.ensures, c.if-line-lines.false)) (c.in-default.ensures v.shape c.requires.1.wired);
+      did = told_none n v c.args.line c.if-self.false (omega (arith, c.lines.ensures, c.if-line-lines.false)) (c.in_default.ensures v.shape c.requires.1.wired);
     }
 
-pub returns-then-is-full : goal.returns-then-is-full
-returns-then-is-full g c =
+pub returns-then-is_full : goal.returns-then-is_full
+returns-then-is_full g c =
     let n = c.args.self.now.routers in
     let v = g.P.Plant.value c.args.self.now.plant in
     record {
       sound = c.requires;
       keeps = keeps_all n;
       did = refuses n v (tell c.args.line) c.if-self.false 23 (line_full n v c.args.line c.if-self.false (omega (arith, c.lines.ensures, c.if-line-lines.false)) c.in-Some.message
-          (c.in-Some.ensures v.shape c.requires.1.wired) (sym c.is-full.ensures ∙ c.if-is-full.true));
+          (c.in-Some.ensures v.shape c.requires.1.wired) (sym c.is_full.ensures ∙ c.if-is_full.true));
     }
 
-pub message-frame-requires : goal.message-frame-requires
-message-frame-requires g c =
+pub message_frame-requires : goal.message_frame-requires
+message_frame-requires g c =
     let n = c.args.self.now.routers in
     let v = g.P.Plant.value c.args.self.now.plant in
     message_real v.shape c.args.line (tables_of n.tables) c.in-Some.message (c.in-Some.ensures v.shape c.requires.1.wired)
@@ -66,6 +66,6 @@ returns g c =
     record {
       sound = (c.send.ensures.sound, fits_then n after v _ c.requires.1 keeps (sends_shape v c.args.line _ c.send.result _ c.send.ensures.sends));
       keeps = keeps;
-      did = told n v c.args.line c.if-self.false (omega (arith, c.lines.ensures, c.if-line-lines.false)) after _ c.in-Some.message _ c.send.result (sym c.is-full.ensures ∙ c.if-is-full.false)
-          (c.in-Some.ensures v.shape c.requires.1.wired) c.message-frame.ensures c.send.ensures.sends turned refl;
+      did = told n v c.args.line c.if-self.false (omega (arith, c.lines.ensures, c.if-line-lines.false)) after _ c.in-Some.message _ c.send.result (sym c.is_full.ensures ∙ c.if-is_full.false)
+          (c.in-Some.ensures v.shape c.requires.1.wired) c.message_frame.ensures c.send.ensures.sends turned refl;
     }

@@ -26,7 +26,7 @@ returns c =
     let did = c.own.ensures in
     record {
       did = λ v fits. runs n v (own r f c.args.mark) c.if-self.false
-          (did_act (plan_of n.plan) (state_of n v) (own r f c.args.mark) refl (sym c.in-default.ensures) _ refl _
+          (did_act (plan_of n.plan) (state_of n v) (own r f c.args.mark) refl (sym c.in_default.ensures) _ refl _
           (did.tables v.shape fits.wired ∙ ap (λ i. refresh i v.shape r f (with_routes (put2 t.owner r f (eqb c.args.mark 1)) t.hop t)) fits.steady.policy)
           refl None (refl, refl));
       keeps = record { plan = refl; still = refl; tables = did.stays };

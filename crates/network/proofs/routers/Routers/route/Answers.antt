@@ -23,7 +23,7 @@ returns-in-Some c =
 
 pub route-requires : goal.route-requires
 route-requires c =
-    let good = c.in-default.ensures.good refl in
+    let good = c.in_default.ensures.good refl in
     record { router = good.0; fec = good.1; line = ap (λ n. is_below n c.args.line) c.requires.lines ∙ good.2 }
 
 pub returns : goal.returns
@@ -35,7 +35,7 @@ returns c =
     let did = c.route.ensures in
     record {
       did = λ v fits. runs n v (route r f c.args.line) c.if-self.false
-          (did_act (plan_of n.plan) (state_of n v) (route r f c.args.line) refl (sym (c.in-default.ensures.refused v.shape fits.wired)) _ refl _
+          (did_act (plan_of n.plan) (state_of n v) (route r f c.args.line) refl (sym (c.in_default.ensures.refused v.shape fits.wired)) _ refl _
           (did.tables v.shape fits.wired ∙ ap (λ i. refresh i v.shape r f (with_routes t.owner (put2 t.hop r f c.args.line) t)) fits.steady.policy)
           refl None (refl, refl));
       keeps = record { plan = refl; still = refl; tables = did.stays };

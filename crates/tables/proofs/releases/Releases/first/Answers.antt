@@ -1,4 +1,4 @@
-use Rattle.std.proofs.Common.{◌≡◌, true, false, Some, sym, ap, ◌∙◌, arith}
+use Rattle.std.proofs.Common.{Some, sym, ap, ◌∙◌, arith}
 use Rattle.model.specs.Tables.{is_some, the}
 use Rattle.model.proofs.Firsts.{label_found, label_missing}
 use Rattle.tables.specs.Grids.{dues_of, with_it}

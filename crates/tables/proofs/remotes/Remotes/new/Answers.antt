@@ -7,5 +7,5 @@ use Rattle.tables.proofs.remotes.Remotes.new.Goals as goal
 pub returns : goal.returns
 returns c = blank_fecs 48 1536 None
 
-pub invariant-of-result : goal.invariant-of-result
-invariant-of-result c = (blank_passes is_real None refl 1536, tt)
+pub invariant_of-result : goal.invariant_of-result
+invariant_of-result c = record { real = blank_passes is_real None refl 1536 }

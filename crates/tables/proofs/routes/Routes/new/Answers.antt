@@ -7,5 +7,5 @@ use Rattle.tables.proofs.routes.Routes.new.Goals as goal
 pub returns : goal.returns
 returns c = record { owners = blank_fecs 16 512 false; hops = blank_fecs 16 512 None; lines = refl }
 
-pub invariant-of-result : goal.invariant-of-result
-invariant-of-result c = (blank_passes (is_below c.args.lines) None refl 512, tt)
+pub invariant_of-result : goal.invariant_of-result
+invariant_of-result c = record { real = blank_passes (is_below c.args.lines) None refl 512 }

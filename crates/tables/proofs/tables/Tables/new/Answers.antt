@@ -1,4 +1,4 @@
-use Rattle.std.proofs.Common.{◌≡◌, refl, ◌∙◌}
+use Rattle.std.proofs.Common.{refl, ◌∙◌}
 use Rattle.model.specs.Tables.{Tables, blank}
 use Rattle.tables.specs.Grids.{owners_of, hops_of, remotes_of, dues_of}
 use Rattle.tables.proofs.tables.Tables.new.Goals as goal

@@ -8,4 +8,4 @@ returns-in-Some c S w =
     is_release S c.args.line (tables_of c.args.self.now) c.in-Some.label c.in-Some.fec c.in-Some.ensures
 
 pub returns : goal.returns
-returns c S w = c.first-news.ensures S w ∙ is_news S c.args.line (tables_of c.args.self.now) c.in-default.ensures
+returns c S w = c.first_news.ensures S w ∙ is_news S c.args.line (tables_of c.args.self.now) c.in_default.ensures

@@ -9,7 +9,7 @@ returns c =
     let s = c.args.self.now in
     let t = tables_of s in
     record {
-      tables = c.set-stage.ensures.put (unlabelled s)
-          ∙ ap (λ e. with_labels t.status (put2 t.stage e c.args.label (stage_number c.args.stage)) t) c.partner-of.ensures;
-      stays = record { policy = refl; wiring = c.set-stage.ensures.kept; lines = refl };
+      tables = c.set_stage.ensures.put (unlabelled s)
+          ∙ ap (λ e. with_labels t.status (put2 t.stage e c.args.label (stage_number c.args.stage)) t) c.partner_of.ensures;
+      stays = record { policy = refl; wiring = c.set_stage.ensures.kept; lines = refl };
     }
