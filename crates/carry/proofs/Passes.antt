@@ -1,8 +1,7 @@
 -- When no port is busy, nothing waits. Assumes nothing.
-use Rattle.std.proofs.Common.{◌≡◌, ℕ, ◌<◌, Bool, true, false, ◌⊎◌, sym, ◌∙◌, subst, ⊎_elim, arith}
+use Rattle.std.proofs.Common.{◌≡◌, ℕ, ◌<◌, Bool, true, false, ◌⊎◌, sym, ◌∙◌, ⊎_elim, arith}
 use Rattle.std.proofs.lemmas.Bool.{cases_eq}
-use Rattle.plant.specs.Plants.{PlantValue, Lawful, total}
-use Rattle.plant.specs.Answers.{Busy}
+use Rattle.plant.specs.Plants.{PlantValue, Lawful}
 use Rattle.plant.proofs.Sums.{sum_none}
 use Rattle.carry.specs.Sweeps.{Passed, Passing}
 

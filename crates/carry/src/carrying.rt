@@ -26,7 +26,7 @@ pub const NOTHING_YET: Tally = Tally {
 
 // Prints the lines of a plant.
 pub fn describe<P: Plant>(rt: &HostRuntime, plant: &P) -> io::Result<()>
-    requires { sound plant.now }
+    requires { P.sound plant.now }
 {
     for line in 0..plant.lines() {
         if let (Some((from, to)), Some(cap), Some(span)) = (
@@ -48,8 +48,8 @@ pub fn send<P: Plant>(
     frame: Frame,
     tally: &mut Tally,
 ) -> io::Result<()>
-    requires { sound plant.old }
-    ensures { sound plant.new }
+    requires { P.sound plant.old }
+    ensures { P.sound plant.new }
 {
     print!(rt; "send on line {line}: ")?;
     print_frame(rt, &frame)?;
@@ -74,9 +74,9 @@ pub fn poll<P: Plant>(
     place: &mut Frame,
     tally: &mut Tally,
 ) -> io::Result<Outcome>
-    requires { sound plant.old }
-    ensures sound { sound plant.new }
-    ensures swept { IfOk result (λ o. Swept (value plant.old) port o (value plant.new)) }
+    requires { P.sound plant.old }
+    ensures sound { P.sound plant.new }
+    ensures swept { IfOk result (λ o. Swept (P.value plant.old) port o (P.value plant.new)) }
 {
     let (outcome, line) = plant.poll(port, place);
     match outcome {
@@ -102,9 +102,9 @@ pub fn sweep<P: Plant>(
     place: &mut Frame,
     tally: &mut Tally,
 ) -> io::Result<bool>
-    requires { sound plant.old }
-    ensures sound { sound plant.new }
-    ensures passed { IfOk result (λ some. Passed (value plant.old) some (value plant.new)) }
+    requires { P.sound plant.old }
+    ensures sound { P.sound plant.new }
+    ensures passed { IfOk result (λ some. Passed (P.value plant.old) some (P.value plant.new)) }
 {
     let mut some = false;
     for port in 0..plant.ports() {
@@ -124,9 +124,9 @@ pub fn drain<P: Plant>(
     place: &mut Frame,
     tally: &mut Tally,
 ) -> io::Result<()>
-    requires { sound plant.old }
-    ensures sound { sound plant.new }
-    ensures empty { OnOk result (total (value plant.new) ≡ 0) }
+    requires { P.sound plant.old }
+    ensures sound { P.sound plant.new }
+    ensures empty { OnOk result (total (P.value plant.new) ≡ 0) }
 {
     while sweep(rt, plant, place, tally)? {}
     Ok(())

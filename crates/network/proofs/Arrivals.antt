@@ -1,5 +1,5 @@
 -- A frame that came out of a line was seen to. Assumes nothing.
-use Rattle.std.proofs.Common.{◌≡◌, ℕ, ◌<◌, Bool, true, false, Some, None, sym, refl, ap, ◌∙◌, subst}
+use Rattle.std.proofs.Common.{◌≡◌, ℕ, Bool, true, false, None, sym, refl, ap, ◌∙◌, subst}
 use Rattle.frame.specs.declared.kind.Kind.{Kind}
 use Rattle.frame.specs.Frames.{FrameValue}
 use Rattle.plant.specs.Plants.{PlantValue}

@@ -1,11 +1,10 @@
 -- How the calls show that they did what the model says. Assumes nothing.
-use Rattle.std.proofs.Common.{◌≡◌, ℕ, Bool, true, false, Some, None, Option, sym, refl, ap, ◌∙◌, subst}
+use Rattle.std.proofs.Common.{◌≡◌, ℕ, true, false, Some, sym, refl, subst}
 use Rattle.plant.specs.Plants.{PlantValue}
 use Rattle.lookup.specs.declared.address.Address.{Address}
 use Rattle.model.specs.Calls.{State, Call, Answer, refused, refusal}
 use Rattle.model.specs.History.{Did}
 use Rattle.model.proofs.Citing.{did_refused, did_stand}
-use Rattle.tables.specs.Reading.{Stays}
 use Rattle.network.specs.declared.routers.Routers.{Routers}
 use Rattle.network.specs.Networks.{plan_of, state_of, Keeps}
 

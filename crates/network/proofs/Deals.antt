@@ -1,5 +1,5 @@
 -- A packet in hand is dealt with. Assumes nothing.
-use Rattle.std.proofs.Common.{◌≡◌, ℕ, ◌-◌, Ok, Err, Result, sym, refl, ap, ◌∙◌, subst}
+use Rattle.std.proofs.Common.{◌≡◌, ℕ, ◌-◌, Ok, Err, Result, sym, refl, ap, subst}
 use Rattle.frame.specs.declared.refusal.Refusal.{Refusal}
 use Rattle.frame.specs.Frames.{FrameValue}
 use Rattle.plant.specs.Plants.{PlantValue}

@@ -1,21 +1,20 @@
 -- The calls that touch the plant, put together. Assumes nothing.
-use Rattle.std.proofs.Common.{◌≡◌, ℕ, ◌<◌, Bool, true, false, List, [], ◌∷◌, ◌++◌, length, Some, None, Option, sym, refl, ap, ◌∙◌, subst, ap₂}
-use Rattle.frame.specs.declared.frame.Frame.{Frame}
-use Rattle.frame.specs.Frames.{FrameValue, frame_value}
-use Rattle.plant.specs.Plants.{PlantValue, Shape}
-use Rattle.plant.specs.Futures.{Turn, idle, moved, handed}
+use Rattle.std.proofs.Common.{◌≡◌, ℕ, ◌<◌, false, [], ◌∷◌, ◌++◌, length, Some, None, sym, refl, ap, ◌∙◌, subst}
+use Rattle.frame.specs.Frames.{FrameValue}
+use Rattle.plant.specs.Plants.{PlantValue}
+use Rattle.plant.specs.Futures.{Turn, handed}
 use Rattle.lookup.specs.declared.address.Address.{Address}
 use Rattle.lookup.specs.Plans.{policy_of, routers_of}
 use Rattle.model.specs.declared.met.Met.{Met}
 use Rattle.model.specs.Packets as packets
-use Rattle.model.specs.Calls.{Answer, done, polled, inject, poll, record_of, inject_refusal, entry_verdict, end_by, send_by, arriving, polling, only}
+use Rattle.model.specs.Calls.{done, polled, inject, poll, record_of, inject_refusal, entry_verdict, end_by, send_by, arriving, polling, only}
 use Rattle.model.specs.History.{Did, Turns, Sending}
 use Rattle.model.proofs.Citing.{did_act, did_poll}
 use Rattle.labels.specs.Wirings.{Wired, end_of}
 use Rattle.tables.specs.Reading.{tables_of}
 use Rattle.book.specs.Books.{book_of}
 use Rattle.network.specs.declared.routers.Routers.{Routers}
-use Rattle.network.specs.Networks.{is_independent, plan_of, state_of, wiring_of, Steady, Fits, Keeps}
+use Rattle.network.specs.Networks.{is_independent, plan_of, state_of, wiring_of, Fits, Keeps}
 use Rattle.network.specs.Dealing.{Dealt, Seen, arrival_of}
 use Rattle.network.proofs.Citing.{runs}
 

@@ -1,12 +1,12 @@
 -- What a message that comes makes of the routers. Assumes nothing.
-use Rattle.std.proofs.Common.{◌≡◌, ℕ, ◌<◌, Bool, true, false, Some, None, sym, refl, ap, ◌∙◌, subst, ap₂, arith}
-use Rattle.plant.specs.Plants.{PlantValue, Shape}
+use Rattle.std.proofs.Common.{◌≡◌, ℕ, ◌<◌, Bool, true, false, Some, sym, refl, subst, arith}
+use Rattle.plant.specs.Plants.{PlantValue}
 use Rattle.lookup.specs.declared.address.Address.{Address}
 use Rattle.model.specs.declared.met.Met.TheVariants.{Message, Stray}
 use Rattle.model.specs.Tables.{Tables}
 use Rattle.model.specs.Calls.{Effect, polled, retabled, else_stray}
-use Rattle.labels.specs.Wirings.{Wired, end_of}
-use Rattle.tables.specs.Reading.{tables_of, Stays}
+use Rattle.labels.specs.Wirings.{end_of}
+use Rattle.tables.specs.Reading.{tables_of}
 use Rattle.book.specs.Books.{book_of}
 use Rattle.network.specs.declared.routers.Routers.{Routers}
 use Rattle.network.specs.Networks.{state_of, wiring_of, Keeps, Fits}

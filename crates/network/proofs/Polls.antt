@@ -1,5 +1,5 @@
 -- A poll, by what the plant did. Assumes nothing.
-use Rattle.std.proofs.Common.{◌≡◌, ℕ, false, sym, refl, ap, ◌∙◌}
+use Rattle.std.proofs.Common.{◌≡◌, ℕ, false, refl, ap, ◌∙◌}
 use Rattle.frame.specs.declared.frame.Frame.{Frame}
 use Rattle.frame.specs.Frames.{frame_value}
 use Rattle.plant.specs.Plants.{PlantValue}

@@ -1,7 +1,7 @@
 -- A network at its start. Assumes nothing.
-use Rattle.std.proofs.Common.{◌≡◌, ℕ, ◌+◌, ◌<◌, ◌≤◌, Bool, true, false, cond, ◌||◌, ltb, leb, ◌⊎◌, List, [], length, get_or, Some, None, Option, sym, refl, ap, ◌∙◌, subst, inl, inr, ⊎_elim, arith}
+use Rattle.std.proofs.Common.{◌≡◌, ℕ, ◌<◌, ◌≤◌, Bool, true, false, ◌||◌, ltb, leb, length, get_or, Some, None, Option, sym, refl, ⊎_elim, arith}
 use Rattle.std.proofs.lemmas.Bool.{cases_eq, cases_lt, cond-false, lt-ltb, le-ltb, leb-false}
-use Rattle.plant.specs.Plants.{PlantValue, Shape, total}
+use Rattle.plant.specs.Plants.{PlantValue, total}
 use Rattle.plant.proofs.Sums.{sum_zero, sum_none}
 use Rattle.lookup.specs.declared.plan.Plan.{Plan}
 use Rattle.lookup.specs.Plans.{routers_of}

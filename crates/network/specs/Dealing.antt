@@ -1,5 +1,5 @@
 -- Packets and messages in hand. Assumes nothing.
-use Rattle.std.specs.Prelude.{◌≡◌, ℕ, Bool, true, Some, None, Option}
+use Rattle.std.specs.Prelude.{◌≡◌, ℕ, Bool, true, None, Option}
 use Rattle.frame.specs.Frames.{FrameValue}
 use Rattle.plant.specs.Plants.{PlantValue}
 use Rattle.lookup.specs.declared.address.Address.{Address}

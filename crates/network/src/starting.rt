@@ -19,10 +19,10 @@ use tables::Tables;
 
 // The routers where a line begins and ends.
 fn ends_of<P: Plant>(plant: &P, line: usize) -> (usize, usize)
-    requires sound { sound plant.now }
-    requires line { line < (value plant.now).shape.lines }
-    ensures from { result.0 ≡ ((value plant.now).shape.line line).from }
-    ensures to { result.1 ≡ ((value plant.now).shape.line line).to }
+    requires sound { P.sound plant.now }
+    requires line { line < (P.value plant.now).shape.lines }
+    ensures from { result.0 ≡ ((P.value plant.now).shape.line line).from }
+    ensures to { result.1 ≡ ((P.value plant.now).shape.line line).to }
 {
     match plant.ends(line) {
         Some(ends) => ends,
@@ -32,8 +32,8 @@ fn ends_of<P: Plant>(plant: &P, line: usize) -> (usize, usize)
 
 // The lines of a plant, as the routers know them.
 fn wiring_of<P: Plant>(plant: &P) -> Wiring
-    requires { sound plant.now }
-    ensures { Wired result (value plant.now).shape }
+    requires { P.sound plant.now }
+    ensures { Wired result (P.value plant.now).shape }
 {
     let mut wiring = Wiring::none();
     for line in 0..plant.lines() {
@@ -45,9 +45,9 @@ fn wiring_of<P: Plant>(plant: &P) -> Wiring
 
 // How many frames wait on a line.
 fn waits_on<P: Plant>(plant: &P, line: usize) -> usize
-    requires sound { sound plant.now }
-    requires line { line < (value plant.now).shape.lines }
-    ensures { result ≡ length ((value plant.now).waiting line) }
+    requires sound { P.sound plant.now }
+    requires line { line < (P.value plant.now).shape.lines }
+    ensures { result ≡ length ((P.value plant.now).waiting line) }
 {
     match plant.waits(line) {
         Some(waits) => waits,
@@ -57,8 +57,8 @@ fn waits_on<P: Plant>(plant: &P, line: usize) -> usize
 
 // Whether something waits on a plant.
 fn is_busy<P: Plant>(plant: &P) -> bool
-    requires { sound plant.now }
-    ensures { result ≡ nat_lt 0 (total (value plant.now)) }
+    requires { P.sound plant.now }
+    ensures { result ≡ nat_lt 0 (total (P.value plant.now)) }
 {
     for line in 0..plant.lines() {
         if waits_on(plant, line) > 0 {
@@ -70,9 +70,9 @@ fn is_busy<P: Plant>(plant: &P) -> bool
 
 // Whether a line has an end at a router outside the plan.
 fn is_outside<P: Plant>(plan: &Plan, plant: &P, line: usize) -> bool
-    requires sound { sound plant.now }
-    requires line { line < (value plant.now).shape.lines }
-    ensures { result ≡ is_outside (plan_of plan.now) (value plant.now).shape line }
+    requires sound { P.sound plant.now }
+    requires line { line < (P.value plant.now).shape.lines }
+    ensures { result ≡ is_outside (plan_of plan.now) (P.value plant.now).shape line }
 {
     let (from, to) = ends_of(plant, line);
     plan.routers() as usize <= from || plan.routers() as usize <= to
@@ -80,8 +80,8 @@ fn is_outside<P: Plant>(plan: &Plan, plant: &P, line: usize) -> bool
 
 // Whether some line has.
 fn leads_out<P: Plant>(plan: &Plan, plant: &P) -> bool
-    requires { sound plant.now }
-    ensures { result ≡ is_some (first (is_outside (plan_of plan.now) (value plant.now).shape) 0 (value plant.now).shape.lines) }
+    requires { P.sound plant.now }
+    ensures { result ≡ is_some (first (is_outside (plan_of plan.now) (P.value plant.now).shape) 0 (P.value plant.now).shape.lines) }
 {
     for line in 0..plant.lines() {
         if is_outside(plan, plant, line) {
@@ -93,8 +93,8 @@ fn leads_out<P: Plant>(plan: &Plan, plant: &P) -> bool
 
 // Whether a network stands still.
 fn is_still<P: Plant>(plan: &Plan, plant: &P) -> bool
-    requires { sound plant.now }
-    ensures { result ≡ is_still (plan_of plan.now) (value plant.now) }
+    requires { P.sound plant.now }
+    ensures { result ≡ is_still (plan_of plan.now) (P.value plant.now) }
 {
     if plan.fault().is_some() {
         return true;
@@ -119,10 +119,10 @@ fn is_independent(policy: Policy) -> bool
 
 // The routers of a plan on a plant, before anything has happened.
 fn routers_of<P: Plant>(plan: Plan, book: Book<Address>, plant: &P) -> Routers
-    requires sound { sound plant.now }
+    requires sound { P.sound plant.now }
     requires book { book_of book ≡ [] }
-    ensures fits { Fits result (value plant.now) }
-    ensures started { Started result plan (value plant.now) }
+    ensures fits { Fits result (P.value plant.now) }
+    ensures started { Started result plan (P.value plant.now) }
 {
     let still = is_still(&plan, plant);
     let independent = is_independent(plan.policy());
@@ -138,7 +138,7 @@ fn routers_of<P: Plant>(plan: Plan, book: Book<Address>, plant: &P) -> Routers
 // Starts a network. It stands still if the plan is void, a line ends at a router outside it, something waits, or kept is
 // under 80. Whatever calls are made of it, and whatever the plant does, every run is safe.
 pub fn start<P: Plant + Drop>(heap: Global, plan: Plan, plant: P) -> Result<Network<P>, AllocError>
-    requires { sound plant }
+    requires { P.sound plant }
     ensures sound { IfOk result (λ n. P.Plant.sound n.plant × Fits n.routers (P.Plant.value n.plant)) }
     ensures started { IfOk result (λ n. Started n.routers plan (P.Plant.value plant)) }
     ensures plant { IfOk result (λ n. n.plant ≡ plant) }

@@ -1,4 +1,4 @@
-use Rattle.std.proofs.Common.{◌<◌, arith}
+use Rattle.std.proofs.Common.{arith}
 use Rattle.carry.proofs.Passes.{all_passed}
 use Rattle.carry.proofs.carrying.sweep.Goals as goal
 

@@ -1,4 +1,4 @@
-use Rattle.std.proofs.Common.{◌≡◌, sym, ap, ◌∙◌, arith}
+use Rattle.std.proofs.Common.{sym, ap, ◌∙◌, arith}
 use Rattle.model.specs.Tables.{is_some}
 use Rattle.model.specs.History.{is_outside}
 use Rattle.model.proofs.Firsts.{first_found, first_missing}

@@ -1,4 +1,4 @@
-use Rattle.std.proofs.Common.{◌≡◌, sym, refl, ap, ◌∙◌, arith}
+use Rattle.std.proofs.Common.{sym, ap, ◌∙◌, arith}
 use Rattle.frame.specs.Stacks.{entries_of}
 use Rattle.model.specs.Packets.{by_stack}
 use Rattle.tables.specs.Reading.{tables_of}

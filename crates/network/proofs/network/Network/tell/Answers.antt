@@ -1,4 +1,4 @@
-use Rattle.std.proofs.Common.{◌≡◌, sym, refl, ap, ◌∙◌, arith}
+use Rattle.std.proofs.Common.{sym, refl, ◌∙◌, arith}
 use Rattle.model.specs.Calls.{tell}
 use Rattle.tables.specs.Reading.{tables_of}
 use Rattle.network.specs.declared.routers.Routers.{Routers}

@@ -1,4 +1,4 @@
-use Rattle.std.proofs.Common.{◌≡◌, Some, sym, refl, ap, ◌∙◌}
+use Rattle.std.proofs.Common.{Some, sym, refl, ◌∙◌}
 use Rattle.model.specs.Tables.{put2, refresh, with_remote}
 use Rattle.tables.specs.Reading.{tables_of}
 use Rattle.network.proofs.Messages.{same₃, same_end, took_stray, took_message}

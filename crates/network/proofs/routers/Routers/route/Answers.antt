@@ -1,4 +1,4 @@
-use Rattle.std.proofs.Common.{◌≡◌, None, sym, refl, ap, ◌∙◌}
+use Rattle.std.proofs.Common.{None, sym, refl, ap, ◌∙◌}
 use Rattle.model.specs.Tables.{put2, refresh, with_routes}
 use Rattle.model.specs.Calls.{route}
 use Rattle.model.proofs.Citing.{did_act}
