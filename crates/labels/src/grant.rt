@@ -1,30 +1,34 @@
-// A label that was taken from a router's pool. Binding it or giving it back spends it; to let it go asks for what never holds.
-ghost use Rattle.std.specs.Prelude.{◌≡◌, ◌<◌, ◌≤◌};
+// A label that was taken from a router's pool. Binding it or giving it back spends it, and only a spent grant may be let go.
+ghost use Rattle.std.specs.Prelude.{◌≡◌, ◌<◌, ◌≤◌, IsTrue};
 
 pub struct Grant {
     pub(crate) router: usize,
     pub(crate) label: usize,
+    // its label has been bound or given back
+    pub(crate) spent: bool,
     ghost real: { (router < 16) × (16 ≤ label) × (label < 80) },
 }
 
 impl Drop for Grant {
     fn drop(self)
-        requires { ⊥ }
+        requires { IsTrue self.spent }
     {
         let Grant {
             router: _,
             label: _,
+            spent: _,
         } = self;
     }
 }
 
 impl Grant {
-    pub(crate) fn spend(self) -> (usize, usize)
-        ensures is { result ≡ (self.router, self.label) }
+    pub(crate) fn spend(&mut self) -> (usize, usize)
+        ensures is { result ≡ (self.old.router, self.old.label) }
         ensures real { (result.0 < 16) × (16 ≤ result.1) × (result.1 < 80) }
+        ensures spent { IsTrue self.new.spent }
     {
-        let Grant { router, label } = self;
-        (router, label)
+        self.spent = true;
+        (self.router, self.label)
     }
 
     pub fn label(&self) -> usize

@@ -1,5 +1,5 @@
 // The status of each label of each router: 16 routers times 64 labels in one flat array. Labels are granted from here.
-ghost use Rattle.std.specs.Prelude.{◌≡◌, ℕ, ◌<◌, ◌≤◌};
+ghost use Rattle.std.specs.Prelude.{◌≡◌, ℕ, ◌<◌, ◌≤◌, IfSome, IsFalse};
 ghost use Rattle.model.specs.Tables.{put2, first_label};
 ghost use Rattle.labels.specs.Arrays.{Within, by_label};
 ghost use Rattle.labels.specs.Pools.{slots, fits};
@@ -82,19 +82,24 @@ impl Pool {
     // Grants the smallest free label of a router. It is taken until the grant is spent, so no other grant is of it.
     pub fn take(&mut self, router: usize) -> Option<Grant>
         requires { router < 16 }
-        ensures { Takes self.old router result self.new }
+        ensures takes { Takes self.old router result self.new }
+        ensures unspent { IfSome result (λ g. IsFalse g.spent) }
     {
         match self.first(router, Sought::Open) {
             Some(label) => {
                 self.put(router, label, Status::Taken);
-                Some(Grant { router, label })
+                Some(Grant {
+                    router,
+                    label,
+                    spent: false,
+                })
             }
             None => None,
         }
     }
 
     // Binds a granted label to a FEC.
-    pub fn bind(&mut self, grant: Grant, fec: u32)
+    pub fn bind(&mut self, mut grant: Grant, fec: u32)
         ensures { slots self.new
             ≡ put2 (slots self.old) grant.router grant.label (Status.Bound fec) }
     {
@@ -103,7 +108,7 @@ impl Pool {
     }
 
     // A granted label is free again.
-    pub fn give_back(&mut self, grant: Grant)
+    pub fn give_back(&mut self, mut grant: Grant)
         ensures { slots self.new ≡ put2 (slots self.old) grant.router grant.label Status.Free }
     {
         let (router, label) = grant.spend();

@@ -14,7 +14,7 @@ invariant_of-self c =
     let r = c.args.router in
     let x = Bound c.args.fec in
     let q = c.bind.new.self in
-    let took = c.in-Some.ensures in
+    let took = c.in-Some.ensures.takes in
     let is = taken_put s.pool c.take.new.self q r g.router g.label x took.0 took.2 c.bind.ensures in
     record { settled = settled_put s.pool q r g.label x is s.settled refl }
 
@@ -25,7 +25,7 @@ returns-in-Some c =
     let r = c.args.router in
     let f = c.args.fec in
     let q = c.bind.new.self in
-    let took = c.in-Some.ensures in
+    let took = c.in-Some.ensures.takes in
     let is = taken_put s.pool c.take.new.self q r g.router g.label (Bound f) took.0 took.2 c.bind.ensures in
     record {
       bound = λ S t w.
@@ -39,7 +39,7 @@ returns-in-Some c =
 pub returns-in-None : goal.returns-in-None
 returns-in-None c =
     let s = c.args.self.now in
-    let took = c.in-None.ensures in
+    let took = c.in-None.ensures.takes in
     record {
       bound = λ S t w.
           ap (λ p. with_labels (statuses_of p) (stages_of s.stages) t) took.1
