@@ -1,5 +1,5 @@
 -- The rows that tell what became of the packets. Assumes nothing.
-use Rattle.std.specs.Prelude.{ℕ, List, [], ◌∷◌, ◌++◌, map, length}
+use Rattle.std.specs.Prelude.{List, [], ◌∷◌, ◌++◌, map, length}
 use Rattle.model.specs.declared.fate.Fate.TheVariants.{Waiting, Delivered, Dropped}
 use Rattle.model.specs.Packets.{Record}
 use Rattle.model.specs.Promises.{count}

@@ -12,7 +12,7 @@ use Rattle.tunnel.specs.declared.path.Path.{Path}
 use Rattle.tunnel.specs.Tunnels.{Way, own, own_at, on, crossing, top_is, tops, keep, popped, forth, back, hop_frames, tunnel_value}
 use Rattle.tunnel.specs.Held.{TunnelOk}
 use Rattle.tunnel.specs.Ways.{own_none}
-use Rattle.tunnel.proofs.Steps.{plain, low}
+use Rattle.tunnel.proofs.Steps.{low}
 use Rattle.tunnel.proofs.Answers.{Side, side_forth, side_back, plain_sent, own_sent, line_low}
 use Rattle.tunnel.proofs.Rooms.{keep_parts, keep_like, hop_part, way_load, kept_joined, shallow_joined}
 use Rattle.tunnel.proofs.Reading.{keep_all}

@@ -6,7 +6,6 @@ use Rattle.frame.specs.Frames.{FrameValue, frame_value}
 use Rattle.frame.specs.Stacks.{rest_of}
 use Rattle.frame.specs.declared.entry.Entry.{Entry}
 use Rattle.frame.specs.declared.frame.Frame.{Frame}
-use Rattle.frame.specs.declared.refusal.Refusal.{Refusal}
 use Rattle.plant.specs.declared.outcome.Outcome.{Outcome}
 use Rattle.plant.specs.declared.outcome.Outcome.TheVariants.{Idle, Moved, Handed}
 use Rattle.plant.specs.Plants.{PlantValue, Lawful}
@@ -15,8 +14,8 @@ use Rattle.plant.specs.Futures.{sent, polled, handed, Future, Foretold, after, t
 use Rattle.plant.proofs.Laws.{Welcome, not_refused, joined_total, handed_total, moved_total}
 use Rattle.tunnel.specs.declared.path.Path.{Path}
 use Rattle.tunnel.specs.declared.path.Hop.{Hop}
-use Rattle.tunnel.specs.Held.{TunnelOk, Kept}
-use Rattle.tunnel.specs.Tunnels.{Way, way_of, meaning, own, top_is, popped, tunnel_value}
+use Rattle.tunnel.specs.Held.{TunnelOk}
+use Rattle.tunnel.specs.Tunnels.{Way, way_of, own, top_is, popped, tunnel_value}
 use Rattle.tunnel.specs.Onward.{next_outer, relabelled, line_of, shown, tunnel_turn, sent_on, relay_of, Relayed, after_relay}
 use Rattle.tunnel.specs.Inner.{Owned, Carried, CarriedOn}
 use Rattle.tunnel.specs.Paths.{tops_some, outer_label}

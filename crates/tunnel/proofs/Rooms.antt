@@ -11,9 +11,9 @@ use Rattle.plant.proofs.Sums.{sum_front, sum_none, sum_zero}
 use Rattle.plant.proofs.Laws.{Welcome, joined_lawful, joined_total, handed_lawful, handed_total, moved_lawful, moved_total}
 use Rattle.tunnel.specs.declared.path.Path.{Path}
 use Rattle.tunnel.specs.Held.{All, Shallow, PathOk, TunnelOk}
-use Rattle.tunnel.specs.Tunnels.{Way, hop, forth, back, own, on, top_is, tops, keep, popped, hop_frames, along, gather, later, ahead, tunnel_value, whole}
+use Rattle.tunnel.specs.Tunnels.{Way, forth, back, own, on, top_is, tops, keep, popped, hop_frames, along, gather, later, ahead, tunnel_value}
 use Rattle.tunnel.specs.Ways.{hop_left}
-use Rattle.tunnel.proofs.Steps.{plain, low}
+use Rattle.tunnel.proofs.Steps.{low}
 use Rattle.tunnel.proofs.Answers.{Side, side_forth, side_back, line_low}
 
 pub keep_parts : {X : Type 0} (t : X → Bool) (xs : List X) → length (keep (λ x. not (t x)) xs) + length (keep t xs) ≡ length xs
