@@ -7,7 +7,7 @@ use Rattle.plant.specs.declared.outcome.Outcome.TheVariants.{Idle, Moved, Handed
 use Rattle.plant.specs.Answers.{Polled}
 use Rattle.plant.specs.Futures.{idle, moved}
 use Rattle.model.specs.declared.met.Met.{Met}
-use Rattle.model.specs.declared.met.Met.TheVariants.{Idle as met-idle, Moved as met-moved}
+use Rattle.model.specs.declared.met.Met.TheVariants.{Idle as met_idle, Moved as met_moved}
 use Rattle.model.specs.Calls.{poll, polled}
 use Rattle.model.specs.History.{Did}
 use Rattle.model.proofs.Citing.{polled_turns}
@@ -18,13 +18,13 @@ use Rattle.network.proofs.Citing.{keeps_all}
 use Rattle.network.proofs.Doing.{fits_then, polled_none, polled_frame}
 
 module _ (n : Routers) (v u : PlantValue) (p : ℕ) (old : Frame) (l : ℕ) (new : Frame) (runs : n.still ≡ false) (fits : Fits n v) where
-  pub poll_idle : Polled Idle v p old l new u → Fits n u × Did n.still (plan_of n.plan) (state_of n v) (poll p) (polled met-idle 0) (state_of n u)
+  pub poll_idle : Polled Idle v p old l new u → Fits n u × Did n.still (plan_of n.plan) (state_of n v) (poll p) (polled met_idle 0) (state_of n u)
   poll_idle h =
-      (fits_then n n v u fits (keeps_all n) (ap (λ (x : PlantValue). x.shape) h.3), polled_none n v u p runs idle (polled_turns Idle v p old l new u h) met-idle refl)
+      (fits_then n n v u fits (keeps_all n) (ap (λ (x : PlantValue). x.shape) h.3), polled_none n v u p runs idle (polled_turns Idle v p old l new u h) met_idle refl)
 
-  pub poll_moved : Polled Moved v p old l new u → Fits n u × Did n.still (plan_of n.plan) (state_of n v) (poll p) (polled met-moved 0) (state_of n u)
+  pub poll_moved : Polled Moved v p old l new u → Fits n u × Did n.still (plan_of n.plan) (state_of n v) (poll p) (polled met_moved 0) (state_of n u)
   poll_moved h =
-      (fits_then n n v u fits (keeps_all n) h.3.shape, polled_none n v u p runs moved (polled_turns Moved v p old l new u h) met-moved refl)
+      (fits_then n n v u fits (keeps_all n) h.3.shape, polled_none n v u p runs moved (polled_turns Moved v p old l new u h) met_moved refl)
 
   pub poll_handed : Polled Handed v p old l new u → (m : Met) (n' : Routers) (w : PlantValue) → Seen n u (arrival_of n u l (frame_value new)) (polled m l) n' w
       → Fits n' w × Did n.still (plan_of n.plan) (state_of n v) (poll p) (polled m l) (state_of n' w)

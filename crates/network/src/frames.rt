@@ -2,7 +2,7 @@
 ghost use Rattle.std.specs.Prelude.{◌≡◌, true};
 ghost use Rattle.frame.specs.Frames.{frame_value};
 ghost use Rattle.model.specs.Tables.{is_label};
-ghost use Rattle.model.specs.Messages.{message as messageValue};
+ghost use Rattle.model.specs.Messages.{message as message_value};
 ghost use Rattle.model.specs.Packets.{data_frame};
 
 use frame::{Entry, Frame, Kind, Stack};
@@ -21,7 +21,7 @@ pub(crate) fn no_frame() -> Frame {
 // The frame of a message.
 pub(crate) fn message_frame(message: Message) -> Frame
     requires { is_label message.label ≡ true }
-    ensures { frame_value result ≡ messageValue message.kind message.fec message.label }
+    ensures { frame_value result ≡ message_value message.kind message.fec message.label }
 {
     Frame {
         kind: message.kind,
