@@ -9,3 +9,6 @@ mod words;
 pub use crate::making::packet_row;
 pub use crate::row::Row;
 pub use crate::text::report;
+
+#[cfg(test)]
+mod tests;
