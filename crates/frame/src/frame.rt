@@ -2,7 +2,7 @@
 use crate::kind::Kind;
 use crate::stack::Stack;
 
-#[derive(Clone, Copy)]
+#[derive(Clone, Copy, Default)]
 pub struct Frame {
     pub kind: Kind,
     pub stack: Stack,

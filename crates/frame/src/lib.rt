@@ -8,7 +8,7 @@ pub mod refusal;
 pub mod stack;
 pub mod stacking;
 
-pub use crate::entry::{Entry, NO_ENTRY};
+pub use crate::entry::Entry;
 pub use crate::frame::Frame;
 pub use crate::kind::Kind;
 pub use crate::refusal::Refusal;

@@ -1,62 +1,58 @@
 // Why a call is refused. Each case has one published number.
-ghost use Rattle.std.specs.Prelude.{◌≡◌};
+ghost use Rattle.std.specs.Prelude.{◌≡◌, Some};
 ghost use Rattle.frame.specs.Numbers.{refusal_number};
+ghost use Rattle.frame.specs.Words.{refusal_text};
+
+use std::error::Error;
+use std::fmt;
 
 #[derive(Clone, Copy, PartialEq, Eq, Debug)]
 pub enum Refusal {
     // a push on a stack of 8 entries
-    StackFull,
+    StackFull = 2,
     // a label where its rule does not let it stand
-    LabelRule,
-    NoRouter,
-    NoFec,
-    NoLine,
-    OutOfRange,
+    LabelRule = 3,
+    NoRouter = 4,
+    NoFec = 5,
+    NoLine = 6,
+    OutOfRange = 7,
     // a prefix with a one bit behind its length
-    HostBits,
+    HostBits = 8,
     // a next hop over a line that begins at another router
-    OtherRouter,
+    OtherRouter = 9,
     // the lines of a tunnel are no path
-    NoPath,
+    NoPath = 15,
     // one FEC too many
-    TableFull,
+    TableFull = 20,
     // a FEC of that kind and length covers the prefix already
-    FecTaken,
+    FecTaken = 21,
     // what is below cannot carry it
-    Unfit,
-    LineFull,
+    Unfit = 22,
+    LineFull = 23,
     // a packet more than the book holds
-    BookFull,
+    BookFull = 24,
     // a top label that the plant keeps for its tunnels
-    LabelKept,
+    LabelKept = 25,
     // more entries than the plant's depth
-    TooDeep,
+    TooDeep = 26,
     // a buffer with too few places
-    BufferShort,
+    BufferShort = 27,
 }
 
 impl Refusal {
     pub fn number(self) -> u8
         ensures { result ≡ refusal_number self }
     {
-        match self {
-            Refusal::StackFull => 2,
-            Refusal::LabelRule => 3,
-            Refusal::NoRouter => 4,
-            Refusal::NoFec => 5,
-            Refusal::NoLine => 6,
-            Refusal::OutOfRange => 7,
-            Refusal::HostBits => 8,
-            Refusal::OtherRouter => 9,
-            Refusal::NoPath => 15,
-            Refusal::TableFull => 20,
-            Refusal::FecTaken => 21,
-            Refusal::Unfit => 22,
-            Refusal::LineFull => 23,
-            Refusal::BookFull => 24,
-            Refusal::LabelKept => 25,
-            Refusal::TooDeep => 26,
-            Refusal::BufferShort => 27,
-        }
+        self as u8
     }
 }
+
+impl fmt::Display for Refusal {
+    ghost output = { λ r. Some (refusal_text r) };
+
+    fn fmt<W: fmt::Write>(&self, f: &mut fmt::Formatter<W>) -> fmt::Result {
+        write!(f, "refused with {}", self.number())
+    }
+}
+
+impl Error for Refusal {}

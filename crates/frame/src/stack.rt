@@ -1,4 +1,5 @@
 // A label stack: 0 to 8 entries, the bottom one first in the table. Every stack keeps the label rules.
+// The table is an array with a length: frames are copied whole and take no memory, and no vector of the library is copied so.
 ghost use Rattle.std.specs.Prelude.{◌≡◌, ◌≤◌, length};
 ghost use Rattle.frame.specs.Labels.{Keeps};
 

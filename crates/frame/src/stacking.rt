@@ -1,10 +1,10 @@
 // Push, pop and questions of a label stack.
 ghost use Rattle.std.specs.Prelude.{◌≡◌, ◌<◌, [], length, Some};
 ghost use Rattle.frame.specs.Labels.{allowed};
-ghost use Rattle.frame.specs.Numbers.{told_by};
+ghost use Rattle.frame.specs.Numbers.{refused_by};
 ghost use Rattle.frame.specs.Stacks.{entries_of, top_of, rest_of, push_refusal, Pushed};
 
-use crate::entry::{Entry, NO_ENTRY};
+use crate::entry::Entry;
 use crate::refusal::Refusal;
 use crate::stack::Stack;
 
@@ -26,7 +26,7 @@ impl Stack {
         ensures { entries_of result ≡ [] }
     {
         Stack {
-            entries: [NO_ENTRY; 8],
+            entries: [Entry::default(); 8],
             len: 0,
         }
     }
@@ -58,32 +58,30 @@ impl Stack {
     pub fn push(&mut self, entry: Entry) -> Result<(), Refusal>
         ensures { Pushed (entries_of self.old) entry result (entries_of self.new) }
     {
-        if let Some(refusal) = self.refuses(entry) {
-            return Err(refusal);
-        }
+        self.admits(entry)?;
         self.entries[self.len] = entry;
         self.len += 1;
         Ok(())
     }
 
-    // Why an entry may not be pushed, the first rule that it breaks.
-    fn refuses(&self, entry: Entry) -> Option<Refusal>
-        ensures { told_by result ≡ push_refusal (entries_of self.now) entry }
+    // Whether an entry may be pushed, or the first rule that it breaks.
+    fn admits(&self, entry: Entry) -> Result<(), Refusal>
+        ensures { refused_by result ≡ push_refusal (entries_of self.now) entry }
     {
         let height = self.len();
         if height >= 8 {
-            return Some(Refusal::StackFull);
+            return Err(Refusal::StackFull);
         }
         if !label_allowed(height, entry.label) {
-            return Some(Refusal::LabelRule);
+            return Err(Refusal::LabelRule);
         }
         if entry.label >= 1_048_576 {
-            return Some(Refusal::OutOfRange);
+            return Err(Refusal::OutOfRange);
         }
         if entry.tc >= 8 {
-            return Some(Refusal::OutOfRange);
+            return Err(Refusal::OutOfRange);
         }
-        None
+        Ok(())
     }
 
     // Takes the top entry away, if there is one.
@@ -103,5 +101,13 @@ impl Stack {
         if self.len > 0 {
             self.len -= 1;
         }
+    }
+}
+
+impl Default for Stack {
+    ghost is_default = { λ s. entries_of s ≡ [] };
+
+    fn default() -> Stack {
+        Stack::new()
     }
 }

@@ -5,33 +5,25 @@ ghost use Rattle.model.specs.Numbers.{cause_number};
 #[derive(Clone, Copy, PartialEq, Eq, Debug)]
 pub enum Cause {
     // no FEC covers its address
-    NoMatch,
+    NoMatch = 1,
     // its label is not one that the router has in use
-    UnknownLabel,
+    UnknownLabel = 2,
     // its TTL was at most 1
-    TtlSpent,
+    TtlSpent = 3,
     // its label is leaving its FEC
-    LeavingLabel,
+    LeavingLabel = 4,
     // the router has no next hop for its FEC
-    NoNextHop,
+    NoNextHop = 5,
     // the router knows no label for its FEC on the line of the next hop
-    NoRemoteLabel,
+    NoRemoteLabel = 6,
     // the line of the next hop is full
-    NoRoom,
+    NoRoom = 7,
 }
 
 impl Cause {
     pub fn number(self) -> u8
         ensures { result ≡ cause_number self }
     {
-        match self {
-            Cause::NoMatch => 1,
-            Cause::UnknownLabel => 2,
-            Cause::TtlSpent => 3,
-            Cause::LeavingLabel => 4,
-            Cause::NoNextHop => 5,
-            Cause::NoRemoteLabel => 6,
-            Cause::NoRoom => 7,
-        }
+        self as u8
     }
 }

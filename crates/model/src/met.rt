@@ -5,27 +5,21 @@ ghost use Rattle.model.specs.Numbers.{met_number};
 #[derive(Clone, Copy, PartialEq, Eq, Debug)]
 pub enum Met {
     // the plant had nothing to do at the port
-    Idle,
+    Idle = 0,
     // the plant moved a frame on
-    Moved,
+    Moved = 1,
     // a message came out and was read
-    Message,
+    Message = 2,
     // a packet came out and was dealt with
-    Packet,
+    Packet = 3,
     // a frame came out that no rule expects
-    Stray,
+    Stray = 4,
 }
 
 impl Met {
     pub fn number(self) -> u8
         ensures { result ≡ met_number self }
     {
-        match self {
-            Met::Idle => 0,
-            Met::Moved => 1,
-            Met::Message => 2,
-            Met::Packet => 3,
-            Met::Stray => 4,
-        }
+        self as u8
     }
 }

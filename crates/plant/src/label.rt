@@ -9,8 +9,5 @@ use frame::Frame;
 pub fn label_kept(frame: &Frame, kept: u32) -> bool
     ensures { result ≡ over_kept kept (frame_value frame.now).stack }
 {
-    match frame.stack.top() {
-        Some(top) => kept <= top.label,
-        None => false,
-    }
+    frame.stack.top().is_some_and(|top| kept <= top.label)
 }

@@ -14,78 +14,61 @@ pub trait Plant {
     // What the plant stands for.
     ghost value: { Self → PlantValue };
 
-    // How a plant is held in memory so that it has a meaning: every constructor gives it, every call keeps it.
-    ghost sound: { Self → Type 0 };
-
     // What the plant will answer, call by call, where that is known; of a plant that says nothing here nothing is owed.
     ghost future: { Self → Option Future } = { λ _. None };
 
     // The number of lines.
     fn lines(&self) -> usize
-        requires { sound self.now }
         ensures { result ≡ (value self.now).shape.lines };
 
     // The number of ports.
     fn ports(&self) -> usize
-        requires { sound self.now }
         ensures { result ≡ (value self.now).shape.ports };
 
     // The lowest label that the plant keeps for itself.
     fn kept(&self) -> u32
-        requires { sound self.now }
         ensures { result ≡ (value self.now).shape.kept };
 
     // The greatest number of entries of a frame that it takes.
     fn depth(&self) -> usize
-        requires { sound self.now }
         ensures { result ≡ (value self.now).shape.depth };
 
     // The routers where a line begins and ends.
     fn ends(&self, line: usize) -> Option<(usize, usize)>
-        requires { sound self.now }
         ensures { result ≡ ends_at (value self.now).shape line };
 
     // How many frames may wait on a line.
     fn cap(&self, line: usize) -> Option<usize>
-        requires { sound self.now }
         ensures { result ≡ cap_at (value self.now).shape line };
 
     // How many polls a frame takes on its way along a line.
     fn span(&self, line: usize) -> Option<usize>
-        requires { sound self.now }
         ensures { result ≡ span_at (value self.now).shape line };
 
     // How many frames wait on a line.
     fn waits(&self, line: usize) -> Option<usize>
-        requires { sound self.now }
         ensures { result ≡ waits_at (value self.now) line };
 
     // The frame that waits at a place of a line, the oldest at 0.
     fn waiting(&self, line: usize, place: usize) -> Option<Frame>
-        requires { sound self.now }
         ensures { Waiting (value self.now) line place result };
 
     // How many frames a port counts.
     fn count(&self, port: usize) -> usize
-        requires { sound self.now }
         ensures { result ≡ count_at (value self.now) port };
 
     // Puts a frame on a line, or refuses it and changes nothing.
     fn send(&mut self, line: usize, frame: Frame) -> Result<(), Refusal>
-        requires { sound self.old }
-        ensures sound { sound self.new }
         ensures sends { Sends (value self.old) line (frame_value frame) result (value self.new) }
         ensures future { future self.new ≡ option_map (after_send line (frame_value frame) result) (future self.old) };
 
     // Lets the plant do one thing at a port; a frame that comes out goes to the caller's place.
     fn poll(&mut self, port: usize, place: &mut Frame) -> (Outcome, usize)
-        requires { sound self.old }
-        ensures sound { sound self.new }
         ensures polls { Polls (value self.old) port place.old result place.new (value self.new) }
         ensures turn { Foretold (future self.old) (λ b. turn_at b port ≡ turn_is result.0 result.1 (frame_value place.new)) }
         ensures future { future self.new ≡ option_map (λ b. after b (polled port)) (future self.old) };
 
-    ghost lawful: { (p : Self) → sound p → Lawful (value p) };
+    ghost lawful: { (p : Self) → Lawful (value p) };
 
-    ghost shows: { (p : Self) → sound p → Foretold (future p) (λ b. (b []).value ≡ value p) };
+    ghost shows: { (p : Self) → Foretold (future p) (λ b. (b []).value ≡ value p) };
 }

@@ -8,7 +8,7 @@ use Rattle.frame.proofs.stack.Stack.push.Goals as goal
 pub invariant_of-self : goal.invariant_of-self
 invariant_of-self c =
     let s = c.args.self.now in
-    let fits = push_fits (entries_of s) c.args.entry (sym c.in_default.ensures) in
+    let fits = push_fits (entries_of s) c.args.entry (sym c.in_ok-admits.ensures) in
     let high = length-down_from s.entries s.len in
     let room : s.len < length s.entries = omega (arith, fits.room) in
     let stands = subst (λ n. Stands n c.args.entry) (sym high) fits.stands in
@@ -21,6 +21,6 @@ invariant_of-self c =
 pub returns : goal.returns
 returns c =
     let s = c.args.self.now in
-    let fits = push_fits (entries_of s) c.args.entry (sym c.in_default.ensures) in
+    let fits = push_fits (entries_of s) c.args.entry (sym c.in_ok-admits.ensures) in
     let room : s.len < length s.entries = omega (arith, fits.room, length-down_from s.entries s.len) in
-    (sym c.in_default.ensures, down_push s.entries s.len c.args.entry room)
+    (sym c.in_ok-admits.ensures, down_push s.entries s.len c.args.entry room)
