@@ -8,7 +8,7 @@ use Rattle.ring.specs.declared.row.Row.{Row}
 use Rattle.ring.specs.declared.link.Link.{Link}
 use Rattle.ring.specs.Rows.{no_row, row_at, row_line}
 use Rattle.ring.specs.Links.{no_link, link_at, taken, no_line, line_of, bare_shape, link_shape, none_waits}
-use Rattle.ring.specs.Rings.{RingOk, RowOk, ring_shape, ring_lists}
+use Rattle.ring.specs.Order.{RingOk, RowOk, ring_shape, ring_lists}
 use Rattle.ring.specs.Laid.{Laid}
 use Rattle.ring.proofs.Scans.{LinkOk}
 use Rattle.ring.specs.Steps.{bare, past}

@@ -2,7 +2,7 @@
 use Rattle.std.specs.Prelude.{◌≡◌, ℕ, ◌+◌, ◌*◌, ◌<◌, ◌≤◌, List}
 use Rattle.ring.specs.declared.row.Row.{Row}
 use Rattle.ring.specs.Rows.{row_at}
-use Rattle.ring.specs.Rings.{RowOk}
+use Rattle.ring.specs.Order.{RowOk}
 
 -- n rows lie one behind the other in so many places, and are empty
 pub record Laid (rows : List Row) (n size : ℕ) : Type 0 where

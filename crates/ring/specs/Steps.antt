@@ -14,7 +14,7 @@ use Rattle.plant.proofs.Sums.{sum_one}
 use Rattle.plant.proofs.Laws.{Welcome}
 use Rattle.ring.specs.declared.row.Row.{Row}
 use Rattle.ring.specs.Rows.{no_row, row_at, row_frames, run, next, spot, advanced, extended}
-use Rattle.ring.specs.Rings.{RingOk, RowOk, ring_shape, ring_lists}
+use Rattle.ring.specs.Order.{RingOk, RowOk, ring_shape, ring_lists}
 use Rattle.ring.specs.Runs.{run_length, run_other, run_push, run_pop, spot_below, next_below}
 
 -- what the rows stand for

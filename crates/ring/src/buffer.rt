@@ -1,11 +1,11 @@
 // Frames in and out of the places of a line.
 ghost use Rattle.std.specs.Prelude.{◌≡◌, ◌<◌, length, None, Ok, slice_index_or};
 ghost use Rattle.frame.specs.Frames.{frame_value};
-ghost use Rattle.frame.specs.Numbers.{told_by};
+ghost use Rattle.frame.specs.Numbers.{refused_by};
 ghost use Rattle.plant.specs.Answers.{send_refusal, Sends};
 ghost use Rattle.plant.specs.Questions.{no_frame};
 ghost use Rattle.plant.specs.Futures.{after, sent, polled, oldest};
-ghost use Rattle.ring.specs.Rings.{value_of, lists_of, future_of, RingSound, Taken, taken_turn};
+ghost use Rattle.ring.specs.Rings.{value_of, lists_of, future_of, Taken, taken_turn};
 
 use crate::ring::Ring;
 use crate::row::wrapped;
@@ -15,7 +15,6 @@ use plant::label_kept;
 impl Ring {
     // How many frames wait on a line.
     pub(crate) fn held(&self, line: usize) -> usize
-        requires sound { RingSound self.now }
         requires line { line < self.now.lines }
         ensures { result ≡ length (lists_of self.now line) }
     {
@@ -24,7 +23,6 @@ impl Ring {
 
     // The frame at a place of a line, the oldest at 0.
     pub(crate) fn frame_at(&self, line: usize, place: usize) -> Frame
-        requires sound { RingSound self.now }
         requires line { line < self.now.lines }
         requires place { place < length (lists_of self.now line) }
         ensures { frame_value result ≡ slice_index_or (lists_of self.now line) place no_frame }
@@ -33,31 +31,28 @@ impl Ring {
         self.places[row.base + wrapped(row.cap, row.head + place)]
     }
 
-    // Why a send is refused, the first rule that it breaks.
-    pub(crate) fn refuses(&self, line: usize, frame: &Frame) -> Option<Refusal>
-        requires { RingSound self.now }
-        ensures { told_by result ≡ send_refusal (value_of self.now) line (frame_value frame.now) }
+    // Whether a frame may be sent on a line, or the first rule that it breaks.
+    pub(crate) fn admits(&self, line: usize, frame: &Frame) -> Result<(), Refusal>
+        ensures { refused_by result ≡ send_refusal (value_of self.now) line (frame_value frame.now) }
     {
         if line >= self.lines {
-            return Some(Refusal::NoLine);
+            return Err(Refusal::NoLine);
         }
         if self.held(line) >= self.rows[line].cap {
-            return Some(Refusal::LineFull);
+            return Err(Refusal::LineFull);
         }
         if label_kept(frame, 1_048_576) {
-            return Some(Refusal::LabelKept);
+            return Err(Refusal::LabelKept);
         }
         if frame.stack.len() > 8 {
-            return Some(Refusal::TooDeep);
+            return Err(Refusal::TooDeep);
         }
-        None
+        Ok(())
     }
 
     // Writes a frame behind the newest of a line that has room for it.
     pub(crate) fn put(&mut self, line: usize, frame: Frame)
-        requires sound { RingSound self.old }
         requires welcome { send_refusal (value_of self.old) line (frame_value frame) ≡ None }
-        ensures sound { RingSound self.new }
         ensures sends { Sends (value_of self.old) line (frame_value frame) (Ok result) (value_of self.new) }
         ensures future { future_of self.new ≡ after (future_of self.old) (sent line (frame_value frame)) }
     {
@@ -68,7 +63,6 @@ impl Ring {
 
     // The oldest frame of a line.
     fn oldest(&self, line: usize) -> Frame
-        requires sound { RingSound self.now }
         requires line { line < self.now.lines }
         requires some { 0 < length (lists_of self.now line) }
         ensures { frame_value result ≡ slice_index_or (lists_of self.now line) 0 no_frame }
@@ -78,8 +72,6 @@ impl Ring {
 
     // Takes the oldest frame of the line of a port out, if one waits there.
     pub(crate) fn take(&mut self, port: usize) -> Option<Frame>
-        requires { RingSound self.old }
-        ensures sound { RingSound self.new }
         ensures taken { Taken (value_of self.old) port result (value_of self.new) }
         ensures turn { oldest port (lists_of self.old port) ≡ taken_turn port result }
         ensures future { future_of self.new ≡ after (future_of self.old) (polled port) }

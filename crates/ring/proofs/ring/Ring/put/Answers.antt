@@ -11,10 +11,18 @@ extend-requires c =
     let fine = welcome (value_of s) c.args.line (frame_value c.args.frame) c.requires.welcome in
     omega (arith, fine.room, long s.rows s.lines (vec_items s.places) c.args.line fine.line)
 
+pub invariant_of-self : goal.invariant_of-self
+invariant_of-self c =
+    let s = c.args.self.now in
+    let fine = welcome (value_of s) c.args.line (frame_value c.args.frame) c.requires.welcome in
+    let done = stored s.rows s.lines (vec_items s.places) s.sound c.args.line fine.line c.args.frame fine
+    c.extend.result c.extend.ensures c.wrapped.result c.wrapped.ensures in
+    record { sound = done.sound }
+
 pub returns : goal.returns
 returns c =
     let s = c.args.self.now in
     let fine = welcome (value_of s) c.args.line (frame_value c.args.frame) c.requires.welcome in
-    let done = stored s.rows s.lines (vec_items s.places) c.requires.sound c.args.line fine.line c.args.frame fine
+    let done = stored s.rows s.lines (vec_items s.places) s.sound c.args.line fine.line c.args.frame fine
     c.extend.result c.extend.ensures c.wrapped.result c.wrapped.ensures in
-    record { sound = done.sound; sends = (c.requires.welcome, done.joins); future = done.future }
+    record { sends = (c.requires.welcome, done.joins); future = done.future }
