@@ -1,5 +1,6 @@
 pub mod Tunnels
 pub mod Held
+pub mod Props
 pub mod Onward
 pub mod Rules
 pub mod Inner

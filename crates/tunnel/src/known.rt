@@ -7,7 +7,6 @@ use frame::Frame;
 use plant::Plant;
 
 pub(crate) fn ends_of<P: Plant>(plant: &P, line: usize) -> (usize, usize)
-    requires sound { P.sound plant.now }
     requires line { line < (P.value plant.now).shape.lines }
     ensures { (result.0 ≡ ((P.value plant.now).shape.line line).from) × (result.1 ≡ ((P.value plant.now).shape.line line).to) }
 {
@@ -18,7 +17,6 @@ pub(crate) fn ends_of<P: Plant>(plant: &P, line: usize) -> (usize, usize)
 }
 
 pub(crate) fn cap_of<P: Plant>(plant: &P, line: usize) -> usize
-    requires sound { P.sound plant.now }
     requires line { line < (P.value plant.now).shape.lines }
     ensures { result ≡ ((P.value plant.now).shape.line line).cap }
 {
@@ -29,7 +27,6 @@ pub(crate) fn cap_of<P: Plant>(plant: &P, line: usize) -> usize
 }
 
 pub(crate) fn span_of<P: Plant>(plant: &P, line: usize) -> usize
-    requires sound { P.sound plant.now }
     requires line { line < (P.value plant.now).shape.lines }
     ensures { result ≡ ((P.value plant.now).shape.line line).span }
 {
@@ -40,7 +37,6 @@ pub(crate) fn span_of<P: Plant>(plant: &P, line: usize) -> usize
 }
 
 pub(crate) fn waits_of<P: Plant>(plant: &P, line: usize) -> usize
-    requires sound { P.sound plant.now }
     requires line { line < (P.value plant.now).shape.lines }
     ensures { result ≡ length ((P.value plant.now).waiting line) }
 {
@@ -51,7 +47,6 @@ pub(crate) fn waits_of<P: Plant>(plant: &P, line: usize) -> usize
 }
 
 pub(crate) fn frame_of<P: Plant>(plant: &P, line: usize, place: usize) -> Frame
-    requires sound { P.sound plant.now }
     requires line { line < (P.value plant.now).shape.lines }
     requires place { place < length ((P.value plant.now).waiting line) }
     ensures { frame_value result ≡ slice_index_or ((P.value plant.now).waiting line) place no_frame }

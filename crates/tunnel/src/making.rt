@@ -3,7 +3,6 @@ ghost use Rattle.std.specs.Prelude.{◌≡◌};
 ghost use Rattle.std.specs.Option.{option_map};
 ghost use Rattle.frame.specs.Numbers.{told_by};
 ghost use Rattle.tunnel.specs.Tunnels.{meaning};
-ghost use Rattle.tunnel.specs.Held.{Kept};
 ghost use Rattle.tunnel.specs.Onward.{tunnel_future};
 ghost use Rattle.tunnel.specs.Rules.{padded, path_over, tunnel_refusal, tunnel_of, tunnel_over};
 
@@ -17,12 +16,10 @@ impl<P: Plant> Tunnel<P> {
     // A tunnel over a plant, along lines of it and with a window: how many frames may be under way in one direction.
     // Where a rule is broken the tunnel is void: it tells which one, adds no line and passes all calls through.
     pub fn new(below: P, path: &[usize], window: usize) -> Tunnel<P>
-        requires { P.Plant.sound below }
         ensures told { told_by result.fault ≡ tunnel_refusal (P.Plant.value below) path.now window }
         ensures below { result.below ≡ below }
         ensures path { result.path ≡ path_over (P.Plant.value below).shape path.now window }
         ensures value { meaning result.fault result.path (P.Plant.value result.below) ≡ tunnel_of (P.Plant.value below) path.now window }
-        ensures sound { P.Plant.sound result.below × Kept result.fault result.path (P.Plant.value result.below) }
         ensures future { option_map (tunnel_future result.fault result.path) (P.Plant.future result.below) ≡ option_map (tunnel_over path.now window) (P.Plant.future below) }
     {
         let base = (below.kept() as usize).saturating_sub(path.len()) as u32;

@@ -21,9 +21,7 @@ pub(crate) fn poll_open<P: Plant>(
     port: usize,
     place: &mut Frame,
 ) -> (Outcome, usize)
-    requires sound { P.sound below.old }
     requires opened { TunnelOk path.now (P.value below.old) }
-    ensures sound { P.sound below.new }
     ensures opened { TunnelOk path.now (P.value below.new) }
     ensures polls { Polls (tunnel_value path.now (P.value below.old)) port place.old result place.new (tunnel_value path.now (P.value below.new)) }
     ensures relayed { PollsBelow None path.now (P.value below.old) port place.old (turn_of result place.new) (P.value below.new) }
@@ -53,13 +51,11 @@ fn carry_on<P: Plant>(
     mut held: Frame,
     place: &mut Frame,
 ) -> (Outcome, usize)
-    requires sound { P.sound below.old }
     requires links { Links path.now }
     requires few { path.now.below < 48 }
     requires hop { hop.index < path.now.len }
     requires high { 80 ≤ path.now.base }
     requires room { hop.index + 1 < path.now.len → send_refusal (P.value below.old) (next_line path.now hop) (next_frame path.now hop (frame_value held)) ≡ None }
-    ensures sound { P.sound below.new }
     ensures carried { Carried result.0 path.now hop (frame_value held) (P.value below.old) result.1 place.old place.new (P.value below.new) }
     ensures future { CarriedOn result.0 path.now hop (frame_value held) (P.future below.old) (P.future below.new) }
 {
@@ -74,12 +70,10 @@ fn carry_on<P: Plant>(
 
 // Sends an own frame on to the next hop, where there is room for it.
 fn relay<P: Plant>(below: &mut P, path: &Path, hop: Hop, held: Frame)
-    requires sound { P.sound below.old }
     requires links { Links path.now }
     requires high { 80 ≤ path.now.base }
     requires next { hop.index + 1 < path.now.len }
     requires room { send_refusal (P.value below.old) (next_line path.now hop) (next_frame path.now hop (frame_value held)) ≡ None }
-    ensures sound { P.sound below.new }
     ensures joins { Joins (P.value below.old) (next_line path.now hop) (next_frame path.now hop (frame_value held)) (P.value below.new) }
     ensures future { P.future below.new ≡ option_map (λ b. after b (sent (next_line path.now hop) (next_frame path.now hop (frame_value held)))) (P.future below.old) }
 {

@@ -13,7 +13,6 @@ use frame::Frame;
 use plant::Plant;
 
 pub(crate) fn line_ends<P: Plant>(below: &P, path: &Path, line: usize) -> (usize, usize)
-    requires sound { P.sound below.now }
     requires opened { TunnelOk path.now (P.value below.now) }
     requires line { line < path.now.below + 2 }
     ensures from { result.0 ≡ ((tunnel_value path.now (P.value below.now)).shape.line line).from }
@@ -29,7 +28,6 @@ pub(crate) fn line_ends<P: Plant>(below: &P, path: &Path, line: usize) -> (usize
 }
 
 pub(crate) fn line_cap<P: Plant>(below: &P, path: &Path, line: usize) -> usize
-    requires sound { P.sound below.now }
     requires opened { TunnelOk path.now (P.value below.now) }
     requires line { line < path.now.below + 2 }
     ensures { result ≡ ((tunnel_value path.now (P.value below.now)).shape.line line).cap }
@@ -46,7 +44,6 @@ pub(crate) fn line_cap<P: Plant>(below: &P, path: &Path, line: usize) -> usize
 }
 
 pub(crate) fn line_span<P: Plant>(below: &P, path: &Path, line: usize) -> usize
-    requires sound { P.sound below.now }
     requires opened { TunnelOk path.now (P.value below.now) }
     requires line { line < path.now.below + 2 }
     ensures { result ≡ ((tunnel_value path.now (P.value below.now)).shape.line line).span }
@@ -58,7 +55,6 @@ pub(crate) fn line_span<P: Plant>(below: &P, path: &Path, line: usize) -> usize
 }
 
 pub(crate) fn line_waits<P: Plant>(below: &P, path: &Path, line: usize) -> usize
-    requires sound { P.sound below.now }
     requires opened { TunnelOk path.now (P.value below.now) }
     requires line { line < path.now.below + 2 }
     ensures { result ≡ length ((tunnel_value path.now (P.value below.now)).waiting line) }
@@ -79,7 +75,6 @@ pub(crate) fn line_waits<P: Plant>(below: &P, path: &Path, line: usize) -> usize
 
 // The frame at a place of a line's list.
 pub(crate) fn line_frame<P: Plant>(below: &P, path: &Path, line: usize, place: usize) -> Frame
-    requires sound { P.sound below.now }
     requires opened { TunnelOk path.now (P.value below.now) }
     requires line { line < path.now.below + 2 }
     requires place { place < length ((tunnel_value path.now (P.value below.now)).waiting line) }
@@ -110,7 +105,6 @@ pub(crate) fn line_frame<P: Plant>(below: &P, path: &Path, line: usize, place: u
 
 // How many frames on a line below have a label on top.
 fn carried<P: Plant>(below: &P, line: usize, label: u32) -> usize
-    requires sound { P.sound below.now }
     requires line { line < (P.value below.now).shape.lines }
     ensures { result ≡ length (keep (top_is label) ((P.value below.now).waiting line)) }
 {
@@ -125,7 +119,6 @@ fn carried<P: Plant>(below: &P, line: usize, label: u32) -> usize
 
 // The frame at a place among those on a line below that have a label on top, or among the others.
 fn nth<P: Plant>(below: &P, line: usize, label: u32, own: bool, at: usize) -> Frame
-    requires sound { P.sound below.now }
     requires line { line < (P.value below.now).shape.lines }
     requires at { at < length (keep (picks own label) ((P.value below.now).waiting line)) }
     ensures { frame_value result ≡ slice_index_or (keep (picks own label) ((P.value below.now).waiting line)) at no_frame }

@@ -23,7 +23,6 @@ fn in_range(path: &Path) -> bool
 
 // Whether the path's lines exist.
 fn exist<P: Plant>(below: &P, path: &Path) -> bool
-    requires sound { P.sound below.now }
     requires few { path.now.len ≤ 8 }
     ensures { MatchBool result (Exist (P.value below.now).shape path.now) (Exist (P.value below.now).shape path.now → ⊥) }
 {
@@ -37,7 +36,6 @@ fn exist<P: Plant>(below: &P, path: &Path) -> bool
 
 // Whether each line begins where the one before ends.
 fn chained<P: Plant>(below: &P, path: &Path) -> bool
-    requires sound { P.sound below.now }
     requires few { path.now.len ≤ 8 }
     requires exist { Exist (P.value below.now).shape path.now }
     ensures { MatchBool result (Chained (P.value below.now).shape path.now) (Chained (P.value below.now).shape path.now → ⊥) }
@@ -79,7 +77,6 @@ fn apart(path: &Path) -> bool
 
 // Whether the path ends elsewhere than it begins.
 fn open_ended<P: Plant>(below: &P, path: &Path) -> bool
-    requires sound { P.sound below.now }
     requires some { 1 ≤ path.now.len }
     requires few { path.now.len ≤ 8 }
     requires exist { Exist (P.value below.now).shape path.now }
@@ -93,7 +90,6 @@ fn open_ended<P: Plant>(below: &P, path: &Path) -> bool
 
 // Whether nothing waits.
 fn still<P: Plant>(below: &P) -> bool
-    requires { P.sound below.now }
     ensures { MatchBool result (total (P.value below.now) ≡ 0) (total (P.value below.now) ≢ 0) }
 {
     for l in 0..below.lines() {
@@ -106,7 +102,6 @@ fn still<P: Plant>(below: &P) -> bool
 
 // Whether the caps of the path's lines and of their partners exceed the window.
 fn wide<P: Plant>(below: &P, path: &Path) -> bool
-    requires sound { P.sound below.now }
     requires few { path.now.len ≤ 8 }
     requires exist { Exist (P.value below.now).shape path.now }
     ensures { MatchBool result (Wide (P.value below.now).shape path.now) (Wide (P.value below.now).shape path.now → ⊥) }
@@ -124,7 +119,6 @@ fn wide<P: Plant>(below: &P, path: &Path) -> bool
 
 // The spans of a direction, added up.
 pub(crate) fn travelled<P: Plant>(below: &P, path: &Path, back: bool) -> usize
-    requires sound { P.sound below.now }
     requires links { Links path.now }
     requires exist { Exist (P.value below.now).shape path.now }
     ensures { result ≡ spans (P.value below.now).shape (way_of back path.now) }
@@ -138,7 +132,6 @@ pub(crate) fn travelled<P: Plant>(below: &P, path: &Path, back: bool) -> usize
 
 // Whether the lines lead on from one to the next, over each link at most once, and to another router.
 fn leads_through<P: Plant>(below: &P, path: &Path) -> bool
-    requires sound { P.sound below.now }
     requires some { 1 ≤ path.now.len }
     requires few { path.now.len ≤ 8 }
     requires exist { Exist (P.value below.now).shape path.now }
@@ -158,7 +151,6 @@ fn leads_through<P: Plant>(below: &P, path: &Path) -> bool
 
 // Whether a plant can carry a tunnel along a path.
 fn can_carry<P: Plant>(below: &P, path: &Path) -> bool
-    requires sound { P.sound below.now }
     requires base { path.now.base ≡ (P.value below.now).shape.kept - path.now.len }
     requires range { InRange path.now }
     requires exist { Exist (P.value below.now).shape path.now }
@@ -191,7 +183,6 @@ fn can_carry<P: Plant>(below: &P, path: &Path) -> bool
 
 // The first rule that a path breaks, if any.
 pub(crate) fn judge<P: Plant>(below: &P, path: &Path) -> Option<Refusal>
-    requires sound { P.sound below.now }
     requires base { path.now.base ≡ (P.value below.now).shape.kept - path.now.len }
     ensures { told_by result ≡ rule_broken (P.value below.now) path.now }
 {

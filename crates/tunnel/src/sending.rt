@@ -22,9 +22,7 @@ pub(crate) fn send_open<P: Plant>(
     line: usize,
     frame: Frame,
 ) -> Result<(), Refusal>
-    requires sound { P.sound below.old }
     requires opened { TunnelOk path.now (P.value below.old) }
-    ensures sound { P.sound below.new }
     ensures opened { TunnelOk path.now (P.value below.new) }
     ensures sends { Sends (tunnel_value path.now (P.value below.old)) line (frame_value frame) result (tunnel_value path.now (P.value below.new)) }
     ensures entered { Entered (entering path.now line (frame_value frame)) (P.value below.old) result (P.value below.new) }
@@ -44,7 +42,6 @@ pub(crate) fn send_open<P: Plant>(
 
 // Why a frame is refused on a line, the first rule that it breaks.
 fn refuses<P: Plant>(below: &P, path: &Path, line: usize, frame: &Frame) -> Option<Refusal>
-    requires sound { P.sound below.now }
     requires opened { TunnelOk path.now (P.value below.now) }
     ensures { told_by result ≡ send_refusal (tunnel_value path.now (P.value below.now)) line (frame_value frame.now) }
 {
@@ -65,7 +62,6 @@ fn refuses<P: Plant>(below: &P, path: &Path, line: usize, frame: &Frame) -> Opti
 
 // Whether as many frames wait on a line as may.
 fn is_full<P: Plant>(below: &P, path: &Path, line: usize) -> bool
-    requires sound { P.sound below.now }
     requires opened { TunnelOk path.now (P.value below.now) }
     requires line { line < path.now.below + 2 }
     ensures { result ≡ nat_le ((tunnel_value path.now (P.value below.now)).shape.line line).cap (length ((tunnel_value path.now (P.value below.now)).waiting line)) }

@@ -6,6 +6,7 @@ ghost use Rattle.plant.specs.Answers.{Sends, Polls};
 ghost use Rattle.plant.specs.Futures.{Foretold, after, after_send, turn_at, polled};
 ghost use Rattle.tunnel.specs.Tunnels.{meaning};
 ghost use Rattle.tunnel.specs.Held.{Kept};
+ghost use Rattle.tunnel.specs.Props.{kept_prop};
 ghost use Rattle.tunnel.specs.Onward.{entering_at, Entered, turn_of, PollsBelow, tunnel_future};
 ghost use Rattle.tunnel.specs.Foretells.{tells_value, lawful_of};
 
@@ -23,6 +24,8 @@ pub struct Tunnel<P: Plant> {
     pub(crate) path: Path,
     // the rule that was broken, if the tunnel is void
     pub(crate) fault: Option<Refusal>,
+    // an open tunnel keeps the rules of its path at every time
+    ghost kept: { Kept fault path (P.value below) } by { kept_prop fault path (P.value below) },
 }
 
 impl<P: Plant> Plant for Tunnel<P> {
@@ -30,11 +33,9 @@ impl<P: Plant> Plant for Tunnel<P> {
 
     ghost future = { λ t. option_map (tunnel_future t.fault t.path) (P.Plant.future t.below) };
 
-    ghost sound = { λ t. P.Plant.sound t.below × Kept t.fault t.path (P.Plant.value t.below) };
+    ghost lawful = { λ t. lawful_of t.fault t.path (P.Plant.value t.below) t.kept (P.Plant.lawful t.below) };
 
-    ghost lawful = { λ t s. lawful_of t.fault t.path (P.Plant.value t.below) s.1 (P.Plant.lawful t.below s.0) };
-
-    ghost shows = { λ t s. tells_value t.path t.fault (P.Plant.future t.below) (P.Plant.value t.below) (P.Plant.shows t.below s.0) };
+    ghost shows = { λ t. tells_value t.path t.fault (P.Plant.future t.below) (P.Plant.value t.below) (P.Plant.shows t.below) };
 
     fn lines(&self) -> usize {
         match self.fault {
@@ -120,8 +121,6 @@ impl<P: Plant> Plant for Tunnel<P> {
 
     // Beside what every plant promises: at the plant below, what has joined which line.
     fn send(&mut self, line: usize, frame: Frame) -> Result<(), Refusal>
-        requires { P.Plant.sound self.old.below × Kept self.old.fault self.old.path (P.Plant.value self.old.below) }
-        ensures sound { P.Plant.sound self.new.below × Kept self.new.fault self.new.path (P.Plant.value self.new.below) }
         ensures sends { Sends (meaning self.old.fault self.old.path (P.Plant.value self.old.below)) line (frame_value frame) result (meaning self.new.fault self.new.path (P.Plant.value self.new.below)) }
         ensures future { option_map (tunnel_future self.new.fault self.new.path) (P.Plant.future self.new.below) ≡ option_map (after_send line (frame_value frame) result) (option_map (tunnel_future self.old.fault self.old.path) (P.Plant.future self.old.below)) }
         ensures entered { Entered (entering_at self.old.fault self.old.path line (frame_value frame)) (P.Plant.value self.old.below) result (P.Plant.value self.new.below) }
@@ -136,8 +135,6 @@ impl<P: Plant> Plant for Tunnel<P> {
 
     // Beside what every plant promises: at the plant below, a poll, and what was then sent on there.
     fn poll(&mut self, port: usize, place: &mut Frame) -> (Outcome, usize)
-        requires { P.Plant.sound self.old.below × Kept self.old.fault self.old.path (P.Plant.value self.old.below) }
-        ensures sound { P.Plant.sound self.new.below × Kept self.new.fault self.new.path (P.Plant.value self.new.below) }
         ensures polls { Polls (meaning self.old.fault self.old.path (P.Plant.value self.old.below)) port place.old result place.new (meaning self.new.fault self.new.path (P.Plant.value self.new.below)) }
         ensures turn { Foretold (option_map (tunnel_future self.old.fault self.old.path) (P.Plant.future self.old.below)) (λ b. turn_at b port ≡ turn_of result place.new) }
         ensures future { option_map (tunnel_future self.new.fault self.new.path) (P.Plant.future self.new.below) ≡ option_map (λ b. after b (polled port)) (option_map (tunnel_future self.old.fault self.old.path) (P.Plant.future self.old.below)) }

@@ -9,9 +9,9 @@ returns-in-Idle g c =
     let t = c.poll-outcome.new.self in
     let b : Below c.args.path.now (g.P.Plant.value s) (g.P.Plant.value t) (g.P.Plant.future s) (g.P.Plant.future t)
     c.args.port c.args.place.now c.poll-outcome.new.place c.poll-outcome.result.0 c.poll-outcome.result.1 =
-    record { lv = g.met.P.Plant.lawful s c.requires.sound; lw = g.met.P.Plant.lawful t h.sound; ok = c.requires.opened; told = h.polls; turn = h.turn; then = h.future } in
+    record { lv = g.met.P.Plant.lawful s; lw = g.met.P.Plant.lawful t; ok = c.requires.opened; told = h.polls; turn = h.turn; then = h.future } in
     let a = answer_idle b c.in-Idle.is in
-    record { sound = h.sound; opened = a.opened; polls = a.polls; relayed = a.told.relayed; turn = a.told.turn; future = a.told.future }
+    record { opened = a.opened; polls = a.polls; relayed = a.told.relayed; turn = a.told.turn; future = a.told.future }
 
 pub returns-in-Moved : goal.returns-in-Moved
 returns-in-Moved g c =
@@ -20,9 +20,9 @@ returns-in-Moved g c =
     let t = c.poll-outcome.new.self in
     let b : Below c.args.path.now (g.P.Plant.value s) (g.P.Plant.value t) (g.P.Plant.future s) (g.P.Plant.future t)
     c.args.port c.args.place.now c.poll-outcome.new.place c.poll-outcome.result.0 c.poll-outcome.result.1 =
-    record { lv = g.met.P.Plant.lawful s c.requires.sound; lw = g.met.P.Plant.lawful t h.sound; ok = c.requires.opened; told = h.polls; turn = h.turn; then = h.future } in
+    record { lv = g.met.P.Plant.lawful s; lw = g.met.P.Plant.lawful t; ok = c.requires.opened; told = h.polls; turn = h.turn; then = h.future } in
     let a = answer_moved b c.in-Moved.is in
-    record { sound = h.sound; opened = a.opened; polls = a.polls; relayed = a.told.relayed; turn = a.told.turn; future = a.told.future }
+    record { opened = a.opened; polls = a.polls; relayed = a.told.relayed; turn = a.told.turn; future = a.told.future }
 
 pub returns-in-None : goal.returns-in-None
 returns-in-None g c =
@@ -31,9 +31,9 @@ returns-in-None g c =
     let t = c.poll-outcome.new.self in
     let b : Below c.args.path.now (g.P.Plant.value s) (g.P.Plant.value t) (g.P.Plant.future s) (g.P.Plant.future t)
     c.args.port c.args.place.now c.poll-outcome.new.place c.poll-outcome.result.0 c.poll-outcome.result.1 =
-    record { lv = g.met.P.Plant.lawful s c.requires.sound; lw = g.met.P.Plant.lawful t h.sound; ok = c.requires.opened; told = h.polls; turn = h.turn; then = h.future } in
+    record { lv = g.met.P.Plant.lawful s; lw = g.met.P.Plant.lawful t; ok = c.requires.opened; told = h.polls; turn = h.turn; then = h.future } in
     let a = answer_plain b c.in-Handed.is c.in-None.ensures in
-    record { sound = h.sound; opened = a.opened; polls = a.polls; relayed = a.told.relayed; turn = a.told.turn; future = a.told.future }
+    record { opened = a.opened; polls = a.polls; relayed = a.told.relayed; turn = a.told.turn; future = a.told.future }
 
 pub carry_on-requires : goal.carry_on-requires
 carry_on-requires g c =
@@ -42,10 +42,9 @@ carry_on-requires g c =
     let t = c.poll-outcome.new.self in
     let b : Below c.args.path.now (g.P.Plant.value s) (g.P.Plant.value t) (g.P.Plant.future s) (g.P.Plant.future t)
     c.args.port c.args.place.now c.poll-outcome.new.place c.poll-outcome.result.0 c.poll-outcome.result.1 =
-    record { lv = g.met.P.Plant.lawful s c.requires.sound; lw = g.met.P.Plant.lawful t h.sound; ok = c.requires.opened; told = h.polls; turn = h.turn; then = h.future } in
+    record { lv = g.met.P.Plant.lawful s; lw = g.met.P.Plant.lawful t; ok = c.requires.opened; told = h.polls; turn = h.turn; then = h.future } in
     let ok = c.requires.opened.path in
     record {
-      sound = h.sound;
       links = ok.links;
       few = omega (arith, ok.below, ok.few);
       hop = c.in-Some.ensures.0;
@@ -60,8 +59,8 @@ returns-in-Some g c =
     let t = c.poll-outcome.new.self in
     let b : Below c.args.path.now (g.P.Plant.value s) (g.P.Plant.value t) (g.P.Plant.future s) (g.P.Plant.future t)
     c.args.port c.args.place.now c.poll-outcome.new.place c.poll-outcome.result.0 c.poll-outcome.result.1 =
-    record { lv = g.met.P.Plant.lawful s c.requires.sound; lw = g.met.P.Plant.lawful t h.sound; ok = c.requires.opened; told = h.polls; turn = h.turn; then = h.future } in
+    record { lv = g.met.P.Plant.lawful s; lw = g.met.P.Plant.lawful t; ok = c.requires.opened; told = h.polls; turn = h.turn; then = h.future } in
     let u = c.carry_on.new.below in
-    let a = answer_carried b c.in-Handed.is c.in-Some.hop c.in-Some.ensures (g.P.Plant.value u) (g.P.Plant.future u) (g.met.P.Plant.lawful u c.carry_on.ensures.sound)
+    let a = answer_carried b c.in-Handed.is c.in-Some.hop c.in-Some.ensures (g.P.Plant.value u) (g.P.Plant.future u) (g.met.P.Plant.lawful u)
     c.carry_on.result.0 c.carry_on.result.1 c.carry_on.new.place c.carry_on.ensures.carried c.carry_on.ensures.future in
-    record { sound = c.carry_on.ensures.sound; opened = a.opened; polls = a.polls; relayed = a.told.relayed; turn = a.told.turn; future = a.told.future }
+    record { opened = a.opened; polls = a.polls; relayed = a.told.relayed; turn = a.told.turn; future = a.told.future }

@@ -16,27 +16,27 @@ ends_of-from-requires g c =
     let p = c.args.path.now in
     let v = g.P.Plant.value c.args.below.now in
     let at : OwnLine c.args.path.now v c.args.line =
-    record { law = g.met.P.Plant.lawful c.args.below.now c.requires.sound; ok = c.requires.opened; own_line = c.if-line-path.false; exists = c.requires.line } in
+    record { law = g.met.P.Plant.lawful c.args.below.now; ok = c.requires.opened; own_line = c.if-line-path.false; exists = c.requires.line } in
     let least = c.requires.opened.path.len_least in
     let a = hop_within at 0 (omega arith) in
-    record { sound = c.requires.sound; line = subst (λ n. n < v.shape.lines) (sym c.at.ensures) a }
+    record { line = subst (λ n. n < v.shape.lines) (sym c.at.ensures) a }
 
 pub ends_of-to-requires : goal.ends_of-to-requires
 ends_of-to-requires g c =
     let p = c.args.path.now in
     let v = g.P.Plant.value c.args.below.now in
     let at : OwnLine c.args.path.now v c.args.line =
-    record { law = g.met.P.Plant.lawful c.args.below.now c.requires.sound; ok = c.requires.opened; own_line = c.if-line-path.false; exists = c.requires.line } in
+    record { law = g.met.P.Plant.lawful c.args.below.now; ok = c.requires.opened; own_line = c.if-line-path.false; exists = c.requires.line } in
     let least = c.requires.opened.path.len_least in
     let a = hop_within at (p.len - 1) (omega arith) in
-    record { sound = c.requires.sound; line = subst (λ n. n < v.shape.lines) (sym c.at-2.ensures) a }
+    record { line = subst (λ n. n < v.shape.lines) (sym c.at-2.ensures) a }
 
 pub returns : goal.returns
 returns g c =
     let p = c.args.path.now in
     let v = g.P.Plant.value c.args.below.now in
     let at : OwnLine c.args.path.now v c.args.line =
-    record { law = g.met.P.Plant.lawful c.args.below.now c.requires.sound; ok = c.requires.opened; own_line = c.if-line-path.false; exists = c.requires.line } in
+    record { law = g.met.P.Plant.lawful c.args.below.now; ok = c.requires.opened; own_line = c.if-line-path.false; exists = c.requires.line } in
     record {
       from = c.ends_of-from.ensures.0 ∙ ap (λ l. (v.shape.line l).from) c.at.ensures
           ∙ sym (way_line at (λ (n : Line). n.from));

@@ -13,7 +13,7 @@ nth-requires g c =
     let v = g.P.Plant.value c.args.below.now in
     let lt : c.args.line < v.shape.lines = omega (arith, c.requires.opened.path.below) in
     let e = plain_list p v c.args.line c.in-Some.label lt c.in-Some.ensures.1 in
-    record { sound = c.requires.sound; line = lt; at = subst (λ xs. c.args.place < length xs) e c.requires.place }
+    record { line = lt; at = subst (λ xs. c.args.place < length xs) e c.requires.place }
 
 pub frame_of-requires : goal.frame_of-requires
 frame_of-requires g c =
@@ -21,7 +21,7 @@ frame_of-requires g c =
     let v = g.P.Plant.value c.args.below.now in
     let lt : c.args.line < v.shape.lines = omega (arith, c.requires.opened.path.below) in
     let e = free_list p v c.args.line lt c.in-None.ensures.1 in
-    record { sound = c.requires.sound; line = lt; place = subst (λ xs. c.args.place < length xs) e c.requires.place }
+    record { line = lt; place = subst (λ xs. c.args.place < length xs) e c.requires.place }
 
 pub returns-in-Some : goal.returns-in-Some
 returns-in-Some g c =
@@ -44,7 +44,7 @@ loop-k-init g c =
     let p = c.args.path.now in
     let v = g.P.Plant.value c.args.below.now in
     let at : OwnLine c.args.path.now v c.args.line =
-    record { law = g.met.P.Plant.lawful c.args.below.now c.requires.sound; ok = c.requires.opened; own_line = c.if-line-path.false; exists = c.requires.line } in
+    record { law = g.met.P.Plant.lawful c.args.below.now; ok = c.requires.opened; own_line = c.if-line-path.false; exists = c.requires.line } in
     let f = hop_frames v.waiting (way_of (ltb p.below c.args.line) p) in
     let z : p.len ≡ p.len - 0 = omega arith in
     let e = way_list at in
@@ -55,18 +55,18 @@ carried-here-requires g c =
     let p = c.args.path.now in
     let v = g.P.Plant.value c.args.below.now in
     let at : OwnLine c.args.path.now v c.args.line =
-    record { law = g.met.P.Plant.lawful c.args.below.now c.requires.sound; ok = c.requires.opened; own_line = c.if-line-path.false; exists = c.requires.line } in
+    record { law = g.met.P.Plant.lawful c.args.below.now; ok = c.requires.opened; own_line = c.if-line-path.false; exists = c.requires.line } in
     let a = hop_within at (p.len - 1 - c.loop-k.k) (omega arith) in
-    record { sound = c.requires.sound; line = subst (λ n. n < v.shape.lines) (sym c.at-on.ensures) a }
+    record { line = subst (λ n. n < v.shape.lines) (sym c.at-on.ensures) a }
 
 pub nth-frame-requires : goal.nth-frame-requires
 nth-frame-requires g c =
     let p = c.args.path.now in
     let v = g.P.Plant.value c.args.below.now in
     let at : OwnLine c.args.path.now v c.args.line =
-    record { law = g.met.P.Plant.lawful c.args.below.now c.requires.sound; ok = c.requires.opened; own_line = c.if-line-path.false; exists = c.requires.line } in
+    record { law = g.met.P.Plant.lawful c.args.below.now; ok = c.requires.opened; own_line = c.if-line-path.false; exists = c.requires.line } in
     let a = hop_within at (p.len - 1 - c.loop-k.k) (omega arith) in
-    record { sound = c.requires.sound; line = subst (λ n. n < v.shape.lines) (sym c.at-on.ensures) a; at = subst (λ n. c.loop-k.left < n) c.carried-here.ensures c.if-left-here.true }
+    record { line = subst (λ n. n < v.shape.lines) (sym c.at-on.ensures) a; at = subst (λ n. c.loop-k.left < n) c.carried-here.ensures c.if-left-here.true }
 
 pub returns-then-left-here : goal.returns-then-left-here
 returns-then-left-here g c =
@@ -74,7 +74,7 @@ returns-then-left-here g c =
     let v = g.P.Plant.value c.args.below.now in
     let q = v.waiting in
     let at : OwnLine c.args.path.now v c.args.line =
-    record { law = g.met.P.Plant.lawful c.args.below.now c.requires.sound; ok = c.requires.opened; own_line = c.if-line-path.false; exists = c.requires.line } in
+    record { law = g.met.P.Plant.lawful c.args.below.now; ok = c.requires.opened; own_line = c.if-line-path.false; exists = c.requires.line } in
     let x = way_of (ltb p.below c.args.line) p in
     let f = hop_frames q x in
     let k = c.loop-k.k in

@@ -14,5 +14,5 @@ pub returns : goal.returns
 returns g c =
     let v = g.P.Plant.value c.args.below.now in
     let at : OwnLine c.args.path.now v c.args.line =
-    record { law = g.met.P.Plant.lawful c.args.below.now c.requires.sound; ok = c.requires.opened; own_line = c.if-line-path.false; exists = c.requires.line } in
+    record { law = g.met.P.Plant.lawful c.args.below.now; ok = c.requires.opened; own_line = c.if-line-path.false; exists = c.requires.line } in
     c.travelled.ensures ∙ sym (way_line at (λ (n : Line). n.span))

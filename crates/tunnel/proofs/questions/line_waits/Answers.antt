@@ -35,9 +35,9 @@ carried-sum-requires g c =
     let p = c.args.path.now in
     let v = g.P.Plant.value c.args.below.now in
     let at : OwnLine c.args.path.now v c.args.line =
-    record { law = g.met.P.Plant.lawful c.args.below.now c.requires.sound; ok = c.requires.opened; own_line = c.if-line-path.false; exists = c.requires.line } in
+    record { law = g.met.P.Plant.lawful c.args.below.now; ok = c.requires.opened; own_line = c.if-line-path.false; exists = c.requires.line } in
     let a = hop_within at c.loop-i.i c.loop-i-test.true in
-    record { sound = c.requires.sound; line = subst (λ n. n < v.shape.lines) (sym c.at.ensures) a }
+    record { line = subst (λ n. n < v.shape.lines) (sym c.at.ensures) a }
 
 -- the sum with one hop more
 more : (g : _) (c : goal.After-carried-sum g) → c.loop-i.sum + c.carried-sum.result
@@ -60,7 +60,7 @@ overflow_add-sum g c =
     let p = c.args.path.now in
     let v = g.P.Plant.value c.args.below.now in
     let at : OwnLine c.args.path.now v c.args.line =
-    record { law = g.met.P.Plant.lawful c.args.below.now c.requires.sound; ok = c.requires.opened; own_line = c.if-line-path.false; exists = c.requires.line } in
+    record { law = g.met.P.Plant.lawful c.args.below.now; ok = c.requires.opened; own_line = c.if-line-path.false; exists = c.requires.line } in
     let a = front_small at (c.loop-i.i + 1) (omega arith) in
     let b = more g c in
     omega (arith, a, b)
@@ -73,7 +73,7 @@ returns g c =
     let p = c.args.path.now in
     let v = g.P.Plant.value c.args.below.now in
     let at : OwnLine c.args.path.now v c.args.line =
-    record { law = g.met.P.Plant.lawful c.args.below.now c.requires.sound; ok = c.requires.opened; own_line = c.if-line-path.false; exists = c.requires.line } in
+    record { law = g.met.P.Plant.lawful c.args.below.now; ok = c.requires.opened; own_line = c.if-line-path.false; exists = c.requires.line } in
     let x = way_of (ltb p.below c.args.line) p in
     let e : c.loop-i.i ≡ p.len = omega arith in
     c.loop-i.invariant ∙ ap (λ n. length (gather (hop_frames v.waiting x) n)) e ∙ ap length (way_list at)

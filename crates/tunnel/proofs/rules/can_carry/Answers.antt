@@ -5,9 +5,8 @@ use Rattle.tunnel.proofs.rules.can_carry.Goals as goal
 pub travelled-requires : goal.travelled-requires
 travelled-requires g c =
     let v = g.P.Plant.value c.args.below.now in
-    let law = g.met.P.Plant.lawful c.args.below.now c.requires.sound in
+    let law = g.met.P.Plant.lawful c.args.below.now in
     record {
-      sound = c.requires.sound;
       links = links_of c.args.path.now v law c.requires.base (omega arith) c.requires.range c.requires.exist c.requires.through;
       exist = c.requires.exist;
     }
@@ -15,9 +14,8 @@ travelled-requires g c =
 pub travelled-requires-2 : goal.travelled-requires-2
 travelled-requires-2 g c =
     let v = g.P.Plant.value c.args.below.now in
-    let law = g.met.P.Plant.lawful c.args.below.now c.requires.sound in
+    let law = g.met.P.Plant.lawful c.args.below.now in
     record {
-      sound = c.requires.sound;
       links = links_of c.args.path.now v law c.requires.base (omega arith) c.requires.range c.requires.exist c.requires.through;
       exist = c.requires.exist;
     }

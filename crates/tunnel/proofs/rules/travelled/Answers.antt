@@ -7,7 +7,7 @@ use Rattle.tunnel.proofs.rules.travelled.Goals as goal
 small : (g : _) (c : goal.After-span_of-sum g) → c.span_of-sum.result ≤ 2097152
 small g c =
     let v = g.P.Plant.value c.args.below.now in
-    let law = g.met.P.Plant.lawful c.args.below.now c.requires.sound in
+    let law = g.met.P.Plant.lawful c.args.below.now in
     let a = way_within c.args.path.now v.shape.lines law.shape.even c.requires.exist c.args.back c.loop-i.i c.loop-i-test.true in
     let b = (law.shape.line ((way_of c.args.back c.args.path.now).at c.loop-i.i) a).span_most in
     subst (λ n. n ≤ 2097152) (sym (c.span_of-sum.ensures ∙ ap (λ l. (v.shape.line l).span) c.at.ensures)) b

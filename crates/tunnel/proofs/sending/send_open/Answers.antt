@@ -14,7 +14,6 @@ use Rattle.tunnel.proofs.sending.send_open.Goals as goal
 
 pub returns-in-Some : goal.returns-in-Some
 returns-in-Some g c = record {
-  sound = c.requires.sound;
   opened = c.requires.opened;
   sends = (sym c.in-Some.ensures, refl);
   entered = refl;
@@ -26,15 +25,14 @@ returns-then-line-path g c =
     let p = c.args.path.now in
     let v = g.P.Plant.value c.args.below.now in
     let w = g.P.Plant.value c.send.new.self in
-    let lv = g.met.P.Plant.lawful c.args.below.now c.requires.sound in
-    let lw = g.met.P.Plant.lawful c.send.new.self c.send.ensures.sound in
+    let lv = g.met.P.Plant.lawful c.args.below.now in
+    let lw = g.met.P.Plant.lawful c.send.new.self in
     let f = frame_value c.args.frame in
     let lt : c.args.line < v.shape.lines = omega (arith, c.requires.opened.path.below, c.if-line-path.true) in
     let fine = welcome (tunnel_value p v) c.args.line f (sym c.in_default.ensures) in
     let r = send_plain p v w lv lw c.requires.opened c.args.line f fine c.send.result lt c.send.ensures.sends in
     let at : entering p c.args.line f ≡ (c.args.line, f) = cond-true (ltb c.args.line p.below) _ _ (lt-ltb c.args.line p.below c.if-line-path.true) in
     record {
-      sound = c.send.ensures.sound;
       opened = r.0;
       sends = r.1;
       entered = subst (λ x. Entered x v c.send.result w) (sym at) (entered_as (c.args.line, f) v c.send.result w c.send.ensures.sends);
@@ -45,7 +43,7 @@ pub enter-labelled-requires : goal.enter-labelled-requires
 enter-labelled-requires g c =
     let p = c.args.path.now in
     let v = g.P.Plant.value c.args.below.now in
-    let lv = g.met.P.Plant.lawful c.args.below.now c.requires.sound in
+    let lv = g.met.P.Plant.lawful c.args.below.now in
     let ok = c.requires.opened.path in
     let fine = welcome (tunnel_value p v) c.args.line (frame_value c.args.frame) (sym c.in_default.ensures) in
     let deep = fine.deep in
@@ -57,8 +55,8 @@ returns g c =
     let p = c.args.path.now in
     let v = g.P.Plant.value c.args.below.now in
     let w = g.P.Plant.value c.send-2.new.self in
-    let lv = g.met.P.Plant.lawful c.args.below.now c.requires.sound in
-    let lw = g.met.P.Plant.lawful c.send-2.new.self c.send-2.ensures.sound in
+    let lv = g.met.P.Plant.lawful c.args.below.now in
+    let lw = g.met.P.Plant.lawful c.send-2.new.self in
     let line = c.args.line in
     let f = frame_value c.args.frame in
     let o = g.P.Plant.future c.args.below.now in
@@ -73,7 +71,6 @@ returns g c =
     let r = send_own p v w lv lw c.requires.opened line f fine c.send-2.result x y side s in
     let at : entering p line f ≡ (x.at 0, labelled (x.label 0) f) = cond-false (ltb line p.below) _ _ (le-ltb line p.below c.if-line-path.false) in
     record {
-      sound = c.send-2.ensures.sound;
       opened = r.0;
       sends = r.1;
       entered = subst (λ z. Entered z v c.send-2.result w) (sym at) (entered_as (x.at 0, labelled (x.label 0) f) v c.send-2.result w s);

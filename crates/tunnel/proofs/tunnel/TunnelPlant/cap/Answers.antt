@@ -7,10 +7,10 @@ pub returns-then-line-self : goal.returns-then-line-self
 returns-then-line-self g c =
     let t = c.args.self.now in
     let m = meaning t.fault t.path (g.P.Plant.value t.below) in
-    line_none t.fault t.path (g.P.Plant.value t.below) c.args.line c.in_default.is c.requires.1 c.if-line-self.true (m.shape.line c.args.line).cap
+    line_none t.fault t.path (g.P.Plant.value t.below) c.args.line c.in_default.is t.kept c.if-line-self.true (m.shape.line c.args.line).cap
 
 pub returns : goal.returns
 returns g c =
     let t = c.args.self.now in
-    line_some t.fault t.path (g.P.Plant.value t.below) c.args.line c.in_default.is c.requires.1 c.if-line-self.false
+    line_some t.fault t.path (g.P.Plant.value t.below) c.args.line c.in_default.is t.kept c.if-line-self.false
     (λ (v : PlantValue). (v.shape.line c.args.line).cap) c.line_cap.result c.line_cap.ensures

@@ -8,7 +8,7 @@ returns-in-Some g c =
     let h = c.poll.ensures in
     let a = void_poll_owes (g.P.Plant.value t.below) (g.P.Plant.value c.poll.new.self) (g.P.Plant.future t.below) (g.P.Plant.future c.poll.new.self)
     c.args.port c.args.place.now c.poll.result.0 c.poll.result.1 c.poll.new.place t.fault c.in-Some.field-0 t.path c.in-Some.is h.polls h.turn h.future in
-    record { sound = (h.sound, a.kept); polls = a.polls; turn = a.turn; future = a.future; relayed = a.relayed; fault = refl; path = refl }
+    record { polls = a.polls; turn = a.turn; future = a.future; relayed = a.relayed; fault = refl; path = refl }
 
 pub returns-in-None : goal.returns-in-None
 returns-in-None g c =
@@ -18,4 +18,4 @@ returns-in-None g c =
     let a = poll_owes (g.P.Plant.value t.below) (g.P.Plant.value u) (g.P.Plant.future t.below) (g.P.Plant.future u)
     c.args.port c.args.place.now c.poll_open.result.0 c.poll_open.result.1 c.poll_open.new.place
     t.fault t.path c.in-None.is h.opened h.polls h.turn h.future h.relayed in
-    record { sound = (h.sound, a.kept); polls = a.polls; turn = a.turn; future = a.future; relayed = a.relayed; fault = refl; path = refl }
+    record { polls = a.polls; turn = a.turn; future = a.future; relayed = a.relayed; fault = refl; path = refl }

@@ -10,4 +10,4 @@ returns-in-None g c =
     let h = c.send_open.ensures in
     let a = send_owes (g.P.Plant.value t.below) (g.P.Plant.value u) (g.P.Plant.future t.below) (g.P.Plant.future u) c.args.line (frame_value c.args.frame) c.send_open.result
     t.fault t.path c.in-None.is h.opened h.sends h.future h.entered in
-    record { sound = (h.sound, a.kept); sends = a.sends; future = a.future; entered = a.entered; fault = refl; path = refl }
+    record { sends = a.sends; future = a.future; entered = a.entered; fault = refl; path = refl }
