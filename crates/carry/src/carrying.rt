@@ -1,133 +1,126 @@
-// Sends and polls over any plant, with a line of print for each that is not idle.
+// A plant in use: sends and polls, with a line of print for each that is not idle.
 ghost use Rattle.std.specs.Prelude.{◌≡◌, IfOk, OnOk};
 ghost use Rattle.plant.specs.Plants.{total};
 ghost use Rattle.carry.specs.Sweeps.{Swept, Passed};
 
-use crate::printing::print_frame;
+use crate::printing::Shown;
 use frame::Frame;
 use plant::{Outcome, Plant};
-use std::io;
+use std::{fmt, io};
 
 // How many frames were taken and refused, and how many polls moved or gave a frame.
-#[derive(Clone, Copy)]
+#[derive(Clone, Copy, Default)]
 pub struct Tally {
-    pub taken: u32,
-    pub refused: u32,
-    pub moved: u32,
-    pub given: u32,
+    taken: u32,
+    refused: u32,
+    moved: u32,
+    given: u32,
 }
 
-pub const NOTHING_YET: Tally = Tally {
-    taken: 0,
-    refused: 0,
-    moved: 0,
-    given: 0,
-};
+impl fmt::Display for Tally {
+    fn fmt<W: fmt::Write>(&self, f: &mut fmt::Formatter<W>) -> fmt::Result {
+        let Tally {
+            taken,
+            refused,
+            moved,
+            given,
+        } = *self;
+        write!(
+            f,
+            "taken {taken}, refused {refused}, moved {moved}, given {given}"
+        )
+    }
+}
 
-// Prints the lines of a plant.
-pub fn describe<P: Plant>(rt: &HostRuntime, plant: &P) -> io::Result<()>
-    requires { P.sound plant.now }
-{
-    for line in 0..plant.lines() {
-        if let (Some((from, to)), Some(cap), Some(span)) = (
-            plant.ends(line),
-            plant.cap(line),
-            plant.span(line),
-        ) {
+// A plant, the place that its frames come out to, and what was counted so far.
+#[derive(Drop)]
+pub struct Carrier<P: Plant> {
+    plant: P,
+    place: Frame,
+    tally: Tally,
+}
+
+impl<P: Plant> Carrier<P> {
+    pub fn new(plant: P) -> Carrier<P> {
+        Carrier {
+            plant,
+            place: Frame::default(),
+            tally: Tally::default(),
+        }
+    }
+
+    pub fn tally(&self) -> Tally {
+        self.tally
+    }
+
+    // Prints the lines of the plant.
+    pub fn describe(&self, rt: &impl Print) -> io::Result<()> {
+        for line in 0..self.plant.lines() {
+            let (from, to) = self.plant.ends(line).unwrap();
+            let cap = self.plant.cap(line).unwrap();
+            let span = self.plant.span(line).unwrap();
             println!(rt; "line {line}: {from} to {to}, cap {cap}, span {span}")?;
         }
+        Ok(())
     }
-    Ok(())
-}
 
-// Sends a frame on a line.
-pub fn send<P: Plant>(
-    rt: &HostRuntime,
-    plant: &mut P,
-    line: usize,
-    frame: Frame,
-    tally: &mut Tally,
-) -> io::Result<()>
-    requires { P.sound plant.old }
-    ensures { P.sound plant.new }
-{
-    print!(rt; "send on line {line}: ")?;
-    print_frame(rt, &frame)?;
-    match plant.send(line, frame) {
-        Ok(()) => {
-            tally.taken = tally.taken.saturating_add(1);
-            println!(rt; ", taken")
-        }
-        Err(refusal) => {
-            let number = refusal.number();
-            tally.refused = tally.refused.saturating_add(1);
-            println!(rt; ", refused with {number}")
+    // Sends a frame on a line.
+    pub fn send(&mut self, rt: &impl Print, line: usize, frame: Frame) -> io::Result<()> {
+        print!(rt; "send on line {line}: {}, ", Shown(&frame))?;
+        match self.plant.send(line, frame) {
+            Ok(()) => {
+                self.tally.taken = self.tally.taken.saturating_add(1);
+                println!(rt; "taken")
+            }
+            Err(refusal) => {
+                self.tally.refused = self.tally.refused.saturating_add(1);
+                println!(rt; "{refusal}")
+            }
         }
     }
-}
 
-// Polls a port.
-pub fn poll<P: Plant>(
-    rt: &HostRuntime,
-    plant: &mut P,
-    port: usize,
-    place: &mut Frame,
-    tally: &mut Tally,
-) -> io::Result<Outcome>
-    requires { P.sound plant.old }
-    ensures sound { P.sound plant.new }
-    ensures swept { IfOk result (λ o. Swept (P.value plant.old) port o (P.value plant.new)) }
-{
-    let (outcome, line) = plant.poll(port, place);
-    match outcome {
-        Outcome::Idle => {}
-        Outcome::Moved => {
-            tally.moved = tally.moved.saturating_add(1);
-            println!(rt; "poll port {port}: moved")?;
-        }
-        Outcome::Handed => {
-            tally.given = tally.given.saturating_add(1);
-            print!(rt; "poll port {port}: line {line} gives ")?;
-            print_frame(rt, place)?;
-            println!(rt; "")?;
-        }
-    }
-    Ok(outcome)
-}
-
-// Polls every port once, in their order, and tells whether some poll was not idle.
-pub fn sweep<P: Plant>(
-    rt: &HostRuntime,
-    plant: &mut P,
-    place: &mut Frame,
-    tally: &mut Tally,
-) -> io::Result<bool>
-    requires { P.sound plant.old }
-    ensures sound { P.sound plant.new }
-    ensures passed { IfOk result (λ some. Passed (P.value plant.old) some (P.value plant.new)) }
-{
-    let mut some = false;
-    for port in 0..plant.ports() {
-        match poll(rt, plant, port, place, tally)? {
+    // Polls a port.
+    pub fn poll(&mut self, rt: &impl Print, port: usize) -> io::Result<Outcome>
+        ensures { IfOk result (λ o. Swept (P.Plant.value self.old.plant) port o (P.Plant.value self.new.plant)) }
+    {
+        let (outcome, line) = self.plant.poll(port, &mut self.place);
+        match outcome {
             Outcome::Idle => {}
-            Outcome::Moved => some = true,
-            Outcome::Handed => some = true,
+            Outcome::Moved => {
+                self.tally.moved = self.tally.moved.saturating_add(1);
+                println!(rt; "poll port {port}: moved")?;
+            }
+            Outcome::Handed => {
+                self.tally.given = self.tally.given.saturating_add(1);
+                println!(rt;
+                    "poll port {port}: line {line} gives {}",
+                    Shown(&self.place)
+                )?;
+            }
         }
+        Ok(outcome)
     }
-    Ok(some)
-}
 
-// Polls until nothing waits.
-pub fn drain<P: Plant>(
-    rt: &HostRuntime,
-    plant: &mut P,
-    place: &mut Frame,
-    tally: &mut Tally,
-) -> io::Result<()>
-    requires { P.sound plant.old }
-    ensures sound { P.sound plant.new }
-    ensures empty { OnOk result (total (P.value plant.new) ≡ 0) }
-{
-    while sweep(rt, plant, place, tally)? {}
-    Ok(())
+    // Polls every port once, in their order, and tells whether some poll was not idle.
+    pub fn sweep(&mut self, rt: &impl Print) -> io::Result<bool>
+        ensures { IfOk result (λ some. Passed (P.Plant.value self.old.plant) some (P.Plant.value self.new.plant)) }
+    {
+        let mut some = false;
+        for port in 0..self.plant.ports() {
+            match self.poll(rt, port)? {
+                Outcome::Idle => {}
+                Outcome::Moved => some = true,
+                Outcome::Handed => some = true,
+            }
+        }
+        Ok(some)
+    }
+
+    // Polls until nothing waits.
+    pub fn drain(&mut self, rt: &impl Print) -> io::Result<()>
+        ensures { OnOk result (total (P.Plant.value self.new.plant) ≡ 0) }
+    {
+        while self.sweep(rt)? {}
+        Ok(())
+    }
 }

@@ -1,170 +1,105 @@
 // The jobs that the program carries out.
-ghost use Rattle.std.specs.Prelude.{IfOk};
-ghost use Rattle.ring.specs.Rings.{RingSound};
-
-use crate::carrying::{NOTHING_YET, Tally, describe, drain, poll, send};
+use crate::carrying::Carrier;
 use frame::{Entry, Frame, Kind, Stack};
 use ring::{Link, Ring};
 use tunnel::Tunnel;
 
-// A frame with one entry if a label is given, else with none.
-fn frame_of(kind: Kind, label: Option<u32>, a: u32, b: u32) -> Frame {
+// A packet under one label.
+fn data(label: u32, packet: u32) -> Frame {
     let mut stack = Stack::new();
-    if let Some(label) = label {
-        let _ = stack.push(Entry {
-            label,
-            tc: 0,
-            ttl: 64,
-        });
+    let _ = stack.push(Entry {
+        label,
+        tc: 0,
+        ttl: 64,
+    });
+    Frame {
+        kind: Kind::Data,
+        stack,
+        a: packet,
+        b: 0,
     }
-    Frame { kind, stack, a, b }
 }
 
-fn print_totals(rt: &HostRuntime, tally: Tally) -> anyhow::Result<()> {
-    let Tally {
-        taken,
-        refused,
-        moved,
-        given,
-    } = tally;
-    println!(rt; "taken {taken}, refused {refused}, moved {moved}, given {given}")?;
-    Ok(())
+// A message of a label for a FEC.
+fn message(kind: Kind, fec: u32, label: u32) -> Frame {
+    Frame {
+        kind,
+        stack: Stack::new(),
+        a: fec,
+        b: label,
+    }
 }
 
 // A plant of these links, with as many places as all lines' caps add up to.
-fn ring_of(rt: &HostRuntime, links: &[Link]) -> anyhow::Result<Ring>
-    ensures { IfOk result (λ ring. RingSound ring) }
-{
+fn ring_of(rt: &impl AllocGlobal, links: &[Link]) -> anyhow::Result<Ring> {
     let mut places = Vec::new(rt.alloc());
-    let blank = frame_of(Kind::Data, None, 0, 0);
     for link in links {
         for _ in 0..link.cap.min(32) {
-            places.push(blank)?;
-            places.push(blank)?;
+            places.push(Frame::default())?;
+            places.push(Frame::default())?;
         }
     }
     Ok(Ring::new(links, places))
 }
 
 // Frames of every kind on several lines, until lines are full; then everything is polled out.
-pub fn over_a_ring(rt: &HostRuntime) -> anyhow::Result<()> {
+pub fn over_a_ring(rt: &(impl AllocGlobal + Print)) -> anyhow::Result<()> {
     println!(rt; "a ring plant of three links")?;
     let links = [
         Link { a: 0, b: 1, cap: 4 },
         Link { a: 1, b: 2, cap: 2 },
         Link { a: 2, b: 0, cap: 1 },
     ];
-    let mut plant = ring_of(rt, &links)?;
-    describe(rt, &plant)?;
-    let mut tally = NOTHING_YET;
+    let mut carrier = Carrier::new(ring_of(rt, &links)?);
+    carrier.describe(rt)?;
     for packet in 0..5 {
-        send(
-            rt,
-            &mut plant,
-            0,
-            frame_of(Kind::Data, Some(16 + packet), packet, 0),
-            &mut tally,
-        )?;
+        carrier.send(rt, 0, data(16 + packet, packet))?;
     }
-    send(
-        rt,
-        &mut plant,
-        3,
-        frame_of(Kind::Mapping, None, 7, 16),
-        &mut tally,
-    )?;
-    send(
-        rt,
-        &mut plant,
-        3,
-        frame_of(Kind::Withdraw, None, 7, 16),
-        &mut tally,
-    )?;
-    send(
-        rt,
-        &mut plant,
-        3,
-        frame_of(Kind::Mapping, None, 8, 17),
-        &mut tally,
-    )?;
-    send(
-        rt,
-        &mut plant,
-        4,
-        frame_of(Kind::Release, None, 7, 16),
-        &mut tally,
-    )?;
-    send(
-        rt,
-        &mut plant,
-        6,
-        frame_of(Kind::Data, None, 0, 0),
-        &mut tally,
-    )?;
-    let mut place = frame_of(Kind::Data, None, 0, 0);
-    drain(rt, &mut plant, &mut place, &mut tally)?;
-    print_totals(rt, tally)
+    for (line, frame) in [
+        (3, message(Kind::Mapping, 7, 16)),
+        (3, message(Kind::Withdraw, 7, 16)),
+        (3, message(Kind::Mapping, 8, 17)),
+        (4, message(Kind::Release, 7, 16)),
+        (6, Frame::default()),
+    ] {
+        carrier.send(rt, line, frame)?;
+    }
+    carrier.drain(rt)?;
+    println!(rt; "{}", carrier.tally())?;
+    Ok(())
 }
 
 // Frames forth and back through a tunnel, and what it refuses.
-pub fn over_a_tunnel(rt: &HostRuntime) -> anyhow::Result<()> {
+pub fn over_a_tunnel(rt: &(impl AllocGlobal + Print)) -> anyhow::Result<()> {
     println!(rt; "a tunnel along lines 0 and 2, window 2, over two links")?;
     let links = [Link { a: 0, b: 1, cap: 4 }, Link { a: 1, b: 2, cap: 4 }];
-    let mut plant = Tunnel::new(ring_of(rt, &links)?, &[0, 2], 2);
-    describe(rt, &plant)?;
-    let mut tally = NOTHING_YET;
-    let mut place = frame_of(Kind::Data, None, 0, 0);
-    send(
-        rt,
-        &mut plant,
-        4,
-        frame_of(Kind::Data, Some(16), 1, 0),
-        &mut tally,
-    )?;
-    let _ = poll(rt, &mut plant, 0, &mut place, &mut tally)?;
-    let _ = poll(rt, &mut plant, 2, &mut place, &mut tally)?;
-    send(
-        rt,
-        &mut plant,
-        5,
-        frame_of(Kind::Mapping, None, 7, 16),
-        &mut tally,
-    )?;
-    send(
-        rt,
-        &mut plant,
-        5,
-        frame_of(Kind::Release, None, 7, 17),
-        &mut tally,
-    )?;
-    send(
-        rt,
-        &mut plant,
-        5,
-        frame_of(Kind::Data, Some(16), 2, 0),
-        &mut tally,
-    )?;
-    send(
-        rt,
-        &mut plant,
-        0,
-        frame_of(Kind::Data, Some(1_048_574), 3, 0),
-        &mut tally,
-    )?;
-    drain(rt, &mut plant, &mut place, &mut tally)?;
-    print_totals(rt, tally)
+    let ring = ring_of(rt, &links)?;
+    let mut carrier = Carrier::new(Tunnel::new(ring, &[0, 2], 2));
+    carrier.describe(rt)?;
+    carrier.send(rt, 4, data(16, 1))?;
+    for port in [0, 2] {
+        let _ = carrier.poll(rt, port)?;
+    }
+    for (line, frame) in [
+        (5, message(Kind::Mapping, 7, 16)),
+        (5, message(Kind::Release, 7, 17)),
+        (5, data(16, 2)),
+        (0, data(1_048_574, 3)),
+    ] {
+        carrier.send(rt, line, frame)?;
+    }
+    carrier.drain(rt)?;
+    println!(rt; "{}", carrier.tally())?;
+    Ok(())
 }
 
 // Which windows the same path takes.
-pub fn windows(rt: &HostRuntime) -> anyhow::Result<()> {
+pub fn windows(rt: &(impl AllocGlobal + Print)) -> anyhow::Result<()> {
     let links = [Link { a: 0, b: 1, cap: 4 }, Link { a: 1, b: 2, cap: 4 }];
     for window in 3..5 {
-        let plant = Tunnel::new(ring_of(rt, &links)?, &[0, 2], window);
-        match plant.fault() {
-            Some(refusal) => {
-                let number = refusal.number();
-                println!(rt; "window {window}: refused with {number}")?;
-            }
+        let ring = ring_of(rt, &links)?;
+        match Tunnel::new(ring, &[0, 2], window).fault() {
+            Some(refusal) => println!(rt; "window {window}: {refusal}")?,
             None => println!(rt; "window {window}: taken")?,
         }
     }
@@ -172,7 +107,7 @@ pub fn windows(rt: &HostRuntime) -> anyhow::Result<()> {
 }
 
 // A tunnel over a tunnel: its path runs along the lower tunnel's line 6, and then line 4.
-pub fn over_two_tunnels(rt: &HostRuntime) -> anyhow::Result<()> {
+pub fn over_two_tunnels(rt: &(impl AllocGlobal + Print)) -> anyhow::Result<()> {
     println!(rt;
         "a tunnel along lines 6 and 4, window 1, over a tunnel along lines 0 and 2, window 2, over three links"
     )?;
@@ -182,38 +117,17 @@ pub fn over_two_tunnels(rt: &HostRuntime) -> anyhow::Result<()> {
         Link { a: 2, b: 3, cap: 4 },
     ];
     let lower = Tunnel::new(ring_of(rt, &links)?, &[0, 2], 2);
-    let mut plant = Tunnel::new(lower, &[6, 4], 1);
-    describe(rt, &plant)?;
-    let mut tally = NOTHING_YET;
-    send(
-        rt,
-        &mut plant,
-        8,
-        frame_of(Kind::Data, Some(16), 1, 0),
-        &mut tally,
-    )?;
-    send(
-        rt,
-        &mut plant,
-        8,
-        frame_of(Kind::Data, Some(16), 2, 0),
-        &mut tally,
-    )?;
-    send(
-        rt,
-        &mut plant,
-        6,
-        frame_of(Kind::Data, Some(17), 3, 0),
-        &mut tally,
-    )?;
-    send(
-        rt,
-        &mut plant,
-        9,
-        frame_of(Kind::Withdraw, None, 7, 16),
-        &mut tally,
-    )?;
-    let mut place = frame_of(Kind::Data, None, 0, 0);
-    drain(rt, &mut plant, &mut place, &mut tally)?;
-    print_totals(rt, tally)
+    let mut carrier = Carrier::new(Tunnel::new(lower, &[6, 4], 1));
+    carrier.describe(rt)?;
+    for (line, frame) in [
+        (8, data(16, 1)),
+        (8, data(16, 2)),
+        (6, data(17, 3)),
+        (9, message(Kind::Withdraw, 7, 16)),
+    ] {
+        carrier.send(rt, line, frame)?;
+    }
+    carrier.drain(rt)?;
+    println!(rt; "{}", carrier.tally())?;
+    Ok(())
 }

@@ -1,27 +1,23 @@
-// Frames and plants in print.
-use frame::{Entry, Frame, Kind};
-use std::io;
+// Frames in print.
+use frame::{Entry, Frame};
+use std::fmt;
 
-fn kind_name(kind: Kind) -> &'static str {
-    match kind {
-        Kind::Data => "data",
-        Kind::Mapping => "mapping",
-        Kind::Withdraw => "withdraw",
-        Kind::Release => "release",
-    }
-}
+// A frame in print: its kind, A and B, and its entries from the top, each as label, TC and TTL.
+#[derive(Clone, Copy)]
+pub struct Shown<'a>(pub &'a Frame);
 
-// Prints a frame: its kind, A and B, and its entries from the top, each as label, TC and TTL.
-pub fn print_frame(rt: &HostRuntime, frame: &Frame) -> io::Result<()> {
-    let kind = kind_name(frame.kind);
-    let a = frame.a;
-    let b = frame.b;
-    print!(rt; "{kind} {a} {b}")?;
-    let mut stack = frame.stack;
-    for _ in 0..stack.len() {
-        if let Some(Entry { label, tc, ttl }) = stack.pop() {
-            print!(rt; " [{label} {tc} {ttl}]")?;
+impl fmt::Display for Shown<'_> {
+    fn fmt<W: fmt::Write>(&self, f: &mut fmt::Formatter<W>) -> fmt::Result {
+        let Frame {
+            kind,
+            mut stack,
+            a,
+            b,
+        } = *self.0;
+        write!(f, "{kind} {a} {b}")?;
+        while let Some(Entry { label, tc, ttl }) = stack.pop() {
+            write!(f, " [{label} {tc} {ttl}]")?;
         }
+        Ok(())
     }
-    Ok(())
 }
