@@ -103,10 +103,10 @@ bare_ring rows items = record {
 abbrev pub line_to : List Link → ℕ → ℕ → Line
 line_to links i l = cond (ltb (l / 2) i) (line_of links l) no_line
 
-pub bare_rows : (n k : ℕ) → row_line (row_at (replicate n no_row) k) ≡ no_line
-bare_rows zero k = refl
-bare_rows (suc n) zero = refl
-bare_rows (suc n) (suc k) = bare_rows n k
+pub bare_rows : (r : Row) → row_line r ≡ no_line → (n k : ℕ) → row_line (row_at (replicate n r) k) ≡ no_line
+bare_rows r e zero k = refl
+bare_rows r e (suc n) zero = e
+bare_rows r e (suc n) (suc k) = bare_rows r e n k
 
 pub lines_none : (links : List Link) (k : ℕ) → line_to links 0 k ≡ no_line
 lines_none links k = cond-false (ltb (k / 2) 0) (line_of links k) no_line (le-ltb (k / 2) 0 (omega arith))
@@ -169,8 +169,8 @@ laid_lists rows n size items laid = λ i l. each_bare l i
     each_bare : (l : ℕ) → ring_lists rows n items l ≡ []
     each_bare l = ⊎_elim (λ lt. bare rows n items l lt (laid.still l lt)) (λ le. past rows n items l le) (cases_lt l n)
 
-pub ring_shape-bare : ring_shape (replicate 32 no_row) 0 ≡ bare_shape
-ring_shape-bare = λ i. record { lines = 0; line = λ l. bare_rows 32 l i; ports = 0; kept = 1048576; depth = 8 }
+pub ring_shape-bare : (r : Row) → row_line r ≡ no_line → ring_shape (replicate 32 r) 0 ≡ bare_shape
+ring_shape-bare r e = λ i. record { lines = 0; line = λ l. bare_rows r e 32 l i; ports = 0; kept = 1048576; depth = 8 }
 
 pub laid_shape : (links : List Link) (rows : List Row) → ((l : ℕ) → row_line (row_at rows l) ≡ line_of links l) → ring_shape rows (2 * length links) ≡ link_shape links
 laid_shape links rows h = λ i. record { lines = 2 * length links; line = λ l. h l i; ports = 2 * length links; kept = 1048576; depth = 8 }

@@ -6,6 +6,7 @@ pub mod link;
 mod make;
 pub mod ring;
 pub mod ring_plant;
+mod room;
 pub mod row;
 mod survey;
 

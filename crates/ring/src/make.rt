@@ -8,7 +8,7 @@ ghost use Rattle.ring.specs.Rings.{shape_of, lists_of};
 
 use crate::link::Link;
 use crate::ring::Ring;
-use crate::row::{NO_ROW, Row};
+use crate::row::Row;
 use crate::survey::survey;
 use frame::Frame;
 
@@ -19,10 +19,10 @@ fn lay(links: &[Link]) -> [Row; 32]
     ensures lines { (l : ℕ) → row_line (row_at result l) ≡ line_of links.now l }
     ensures laid { Laid result (2 * length links.now) (taken links.now (length links.now)) }
 {
-    let mut rows = [NO_ROW; 32];
+    let mut rows = [Row::default(); 32];
     let mut base = 0;
-    for i in 0..links.len() {
-        let Link { a, b, cap } = links[i];
+    for (i, link) in links.iter().enumerate() {
+        let Link { a, b, cap } = *link;
         rows[2 * i] = Row {
             from: a,
             to: b,
@@ -53,7 +53,7 @@ impl Ring {
     {
         if let Err(refusal) = survey(links, places.len()) {
             return Ring {
-                rows: [NO_ROW; 32],
+                rows: [Row::default(); 32],
                 lines: 0,
                 places,
                 fault: Some(refusal),

@@ -7,6 +7,7 @@ use frame::{Frame, Refusal};
 
 #[derive(Drop)]
 pub struct Ring {
+    // an array with the number of rows in use: making a plant cannot fail, so it takes no memory but the caller's places
     pub(crate) rows: [Row; 32],
     pub(crate) lines: usize,
     pub(crate) places: Vec<Frame>,

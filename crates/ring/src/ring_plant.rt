@@ -34,48 +34,30 @@ impl Plant for Ring {
     }
 
     fn ends(&self, line: usize) -> Option<(usize, usize)> {
-        if line >= self.lines {
-            return None;
-        }
-        Some((self.rows[line].from, self.rows[line].to))
+        self.row(line).map(|row| (row.from, row.to))
     }
 
     fn cap(&self, line: usize) -> Option<usize> {
-        if line >= self.lines {
-            return None;
-        }
-        Some(self.rows[line].cap)
+        self.row(line).map(|row| row.cap)
     }
 
     fn span(&self, line: usize) -> Option<usize> {
-        if line >= self.lines {
-            return None;
-        }
-        Some(1)
+        self.row(line).map(|_| 1)
     }
 
     fn waits(&self, line: usize) -> Option<usize> {
-        if line >= self.lines {
-            return None;
-        }
-        Some(self.held(line))
+        self.row(line).map(|row| row.len)
     }
 
     fn waiting(&self, line: usize, place: usize) -> Option<Frame> {
-        if line >= self.lines {
-            return None;
-        }
-        if place >= self.held(line) {
+        if place >= self.waits(line)? {
             return None;
         }
         Some(self.frame_at(line, place))
     }
 
     fn count(&self, port: usize) -> usize {
-        if port >= self.lines {
-            return 0;
-        }
-        self.held(port)
+        self.waits(port).unwrap_or(0)
     }
 
     fn send(&mut self, line: usize, frame: Frame) -> Result<(), Refusal> {

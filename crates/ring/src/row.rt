@@ -2,7 +2,7 @@
 ghost use Rattle.std.specs.Prelude.{◌≡◌, ◌+◌, ◌-◌, ◌<◌};
 ghost use Rattle.ring.specs.Rows.{next, spot, advanced, extended};
 
-#[derive(Clone, Copy)]
+#[derive(Clone, Copy, Default)]
 pub struct Row {
     pub from: usize,
     pub to: usize,
@@ -11,15 +11,6 @@ pub struct Row {
     pub head: usize,
     pub len: usize,
 }
-
-pub const NO_ROW: Row = Row {
-    from: 0,
-    to: 0,
-    cap: 0,
-    base: 0,
-    head: 0,
-    len: 0,
-};
 
 // A place counted past the end goes on from the start.
 pub(crate) fn wrapped(cap: usize, sum: usize) -> usize

@@ -1,5 +1,5 @@
 // The rules of a ring plant, in their order.
-ghost use Rattle.std.specs.Prelude.{◌≡◌, ◌≤◌, length, None};
+ghost use Rattle.std.specs.Prelude.{◌≡◌, ◌^◌, ◌<◌, ◌≤◌, length, None, sum_by};
 ghost use Rattle.frame.specs.Numbers.{refused_by};
 ghost use Rattle.ring.specs.Links.{link_refusal, links_refusal, taken, ring_refusal};
 
@@ -29,17 +29,21 @@ fn check_links(links: &[Link]) -> Result<(), Refusal>
     Ok(())
 }
 
+// The caps of all links together.
+fn caps(links: &[Link]) -> usize
+    requires { sum_by (λ k. k.cap) links.now < 2 ^ 64 }
+    ensures { result ≡ sum_by (λ k. k.cap) links.now }
+{
+    links.iter().map(|link| link.cap).sum()
+}
+
 // How many places the lines of all links take.
 fn places_taken(links: &[Link]) -> usize
     requires few { length links.now ≤ 16 }
     requires links { links_refusal links.now ≡ None }
     ensures { result ≡ taken links.now (length links.now) }
 {
-    let mut sum = 0;
-    for i in 0..links.len() {
-        sum += 2 * links[i].cap;
-    }
-    sum
+    2 * caps(links)
 }
 
 // Whether links and places make a plant, or the first rule that they break.

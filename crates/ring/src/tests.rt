@@ -110,3 +110,13 @@ fn a_line_goes_round(rt: HostRuntime) -> Result<(), Fail> {
     assert!(rt; matches!(plant.send(2, release(0)), Err(Refusal::NoLine)));
     Ok(())
 }
+
+#[test]
+fn a_plant_takes_its_room(rt: HostRuntime) -> Result<(), Fail> {
+    let mut plant = Ring::with_room(rt.alloc(), &[Link { a: 0, b: 1, cap: 1 }])?;
+    assert!(rt; plant.fault().is_none());
+    assert_eq!(rt; plant.lines(), 2);
+    assert!(rt; plant.send(1, release(5)).is_ok());
+    assert!(rt; matches!(plant.send(1, release(6)), Err(Refusal::LineFull)));
+    Ok(())
+}

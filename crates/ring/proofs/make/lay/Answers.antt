@@ -1,12 +1,15 @@
-use Rattle.std.proofs.Common.{◌≡◌, ◌+◌, ◌*◌, ◌<◌, length, sym, refl, ap, ◌∙◌, subst, arith, length-set}
-use Rattle.ring.specs.Links.{link_at, taken}
+use Rattle.std.proofs.Common.{◌≡◌, ◌+◌, ◌*◌, ◌<◌, length, sym, refl, ap, ◌∙◌, subst, arith, length-set, rules}
+use Rattle.ring.specs.Links.{link_at, taken, no_line}
+use Rattle.ring.specs.Rows.{row_line}
 use Rattle.ring.specs.Laid.{Laid}
 use Rattle.ring.proofs.Scans.{links_ok}
 use Rattle.ring.proofs.Laying.{laid_more, laid_none, taken_more, line_to, lines_more, lines_all, lines_none, bare_rows}
 use Rattle.ring.proofs.make.lay.Goals as goal
 
 pub loop-i-init : goal.loop-i-init
-loop-i-init c = (refl, refl, omega arith, laid_none _, λ k. bare_rows 32 k ∙ sym (lines_none c.args.links.now k))
+loop-i-init c =
+    let blank : row_line c.default-rows.result ≡ no_line = search rules in
+    (refl, refl, omega arith, laid_none _, λ k. bare_rows c.default-rows.result blank 32 k ∙ sym (lines_none c.args.links.now k))
 
 pub overflow_add-rows : goal.overflow_add-rows
 overflow_add-rows c =

@@ -1,17 +1,12 @@
 use Rattle.std.proofs.Common.{arith}
-use Rattle.ring.proofs.Scans.{links_ok}
-use Rattle.ring.proofs.Laying.{taken_more}
+use Rattle.ring.proofs.Scans.{caps_few, taken_all}
 use Rattle.ring.proofs.survey.places_taken.Goals as goal
 
-pub overflow_mul-sum : goal.overflow_mul-sum
-overflow_mul-sum c = let ok = links_ok c.args.links.now c.requires.links c.loop-i.i c.loop-i-test.true in omega (arith, ok.cap_most)
+pub caps-requires : goal.caps-requires
+caps-requires c = omega (arith, c.requires.few, caps_few c.args.links.now c.requires.links)
 
-pub overflow_add-sum : goal.overflow_add-sum
-overflow_add-sum c =
-    let ok = links_ok c.args.links.now c.requires.links c.loop-i.i c.loop-i-test.true in
-    omega (arith, ok.cap_most, c.requires.few, c.loop-i.invariant.1)
+pub overflow_mul-result : goal.overflow_mul-result
+overflow_mul-result c = omega (arith, c.requires.few, c.caps.ensures, caps_few c.args.links.now c.requires.links)
 
-pub loop-i-preserved : goal.loop-i-preserved
-loop-i-preserved c =
-    let ok = links_ok c.args.links.now c.requires.links c.loop-i.i c.loop-i-test.true in
-    (omega (arith, taken_more c.args.links.now c.loop-i.i, c.loop-i.invariant.0), omega (arith, ok.cap_most, c.loop-i.invariant.1))
+pub returns : goal.returns
+returns c = omega (arith, c.caps.ensures, taken_all c.args.links.now)
