@@ -15,6 +15,7 @@ fn covered<T: AddressKind>(fec: &Fec, address: &T) -> bool
 }
 
 // The place of the longest FEC of a table that covers an address, the first of them; None where none does.
+#[tactic(auto, using(crate::proofs::Longest::best_so_far))]
 pub fn longest_match<T: AddressKind>(table: &[Fec], address: &T) -> Option<usize>
     ensures named { result ≡ longest_of (covers_by T.agrees T.held address.now) table.now }
     ensures best { Best (covers_by T.agrees T.held address.now) table.now result }
@@ -33,7 +34,6 @@ pub fn find_longest(table: &[Fec], address: &Address) -> Option<usize>
     ensures named { result ≡ best_match table.now address.now }
     ensures best { BestMatch table.now address.now result }
 {
-    // one call for each kind, as its type differs
     // Two arms of one text, as each calls the function at its own type.
     match address {
         Address::V4(a) => longest_match(table, a),

@@ -1,7 +1,6 @@
-use Rattle.std.proofs.Common.{◌≡◌, ◌<◌, Bool, length, Some, sym, ap, ◌∙◌, arith, rules}
+use Rattle.std.proofs.Common.{◌<◌, Bool, length, Some, sym, ◌∙◌, arith, rules}
 use Rattle.lookup.specs.declared.fec.Fec.{Fec}
 use Rattle.lookup.specs.Fecs.{covers_by}
-use Rattle.lookup.specs.Matches.{longest_to}
 use Rattle.lookup.proofs.Longest.{best_so_far}
 use Rattle.lookup.proofs.matching.longest_match.Goals as goal
 
@@ -11,9 +10,3 @@ is_none_or-requires g c = λ x e.
     let low : x < c.loop-i.i = (best_so_far test c.args.table.now c.loop-i.i (Some x) (sym e ∙ c.loop-i.invariant)).low in
     let within : x < length c.args.table.now = omega arith in
     search rules
-
-pub returns-clause-best : goal.returns-clause-best
-returns-clause-best g c =
-    let test : Fec → Bool = covers_by g.T.AddressKind.agrees g.T.AddressKind.held c.args.address.now in
-    let all : c.loop-i.i ≡ length c.args.table.now = omega arith in
-    best_so_far test c.args.table.now (length c.args.table.now) c.loop-i.best (c.loop-i.invariant ∙ ap (longest_to test c.args.table.now) all)
