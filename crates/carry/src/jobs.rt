@@ -30,18 +30,6 @@ fn message(kind: Kind, fec: u32, label: u32) -> Frame {
     }
 }
 
-// A plant of these links, with as many places as all lines' caps add up to.
-fn ring_of(rt: &impl AllocGlobal, links: &[Link]) -> anyhow::Result<Ring> {
-    let mut places = Vec::new(rt.alloc());
-    for link in links {
-        for _ in 0..link.cap.min(32) {
-            places.push(Frame::default())?;
-            places.push(Frame::default())?;
-        }
-    }
-    Ok(Ring::new(links, places))
-}
-
 // Frames of every kind on several lines, until lines are full; then everything is polled out.
 pub fn over_a_ring(rt: &(impl AllocGlobal + Print)) -> anyhow::Result<()> {
     println!(rt; "a ring plant of three links")?;
@@ -50,7 +38,7 @@ pub fn over_a_ring(rt: &(impl AllocGlobal + Print)) -> anyhow::Result<()> {
         Link { a: 1, b: 2, cap: 2 },
         Link { a: 2, b: 0, cap: 1 },
     ];
-    let mut carrier = Carrier::new(ring_of(rt, &links)?);
+    let mut carrier = Carrier::new(Ring::with_room(rt.alloc(), &links)?);
     carrier.describe(rt)?;
     for packet in 0..5 {
         carrier.send(rt, 0, data(16 + packet, packet))?;
@@ -73,7 +61,7 @@ pub fn over_a_ring(rt: &(impl AllocGlobal + Print)) -> anyhow::Result<()> {
 pub fn over_a_tunnel(rt: &(impl AllocGlobal + Print)) -> anyhow::Result<()> {
     println!(rt; "a tunnel along lines 0 and 2, window 2, over two links")?;
     let links = [Link { a: 0, b: 1, cap: 4 }, Link { a: 1, b: 2, cap: 4 }];
-    let ring = ring_of(rt, &links)?;
+    let ring = Ring::with_room(rt.alloc(), &links)?;
     let mut carrier = Carrier::new(Tunnel::new(ring, &[0, 2], 2));
     carrier.describe(rt)?;
     carrier.send(rt, 4, data(16, 1))?;
@@ -97,7 +85,7 @@ pub fn over_a_tunnel(rt: &(impl AllocGlobal + Print)) -> anyhow::Result<()> {
 pub fn windows(rt: &(impl AllocGlobal + Print)) -> anyhow::Result<()> {
     let links = [Link { a: 0, b: 1, cap: 4 }, Link { a: 1, b: 2, cap: 4 }];
     for window in 3..5 {
-        let ring = ring_of(rt, &links)?;
+        let ring = Ring::with_room(rt.alloc(), &links)?;
         match Tunnel::new(ring, &[0, 2], window).fault() {
             Some(refusal) => println!(rt; "window {window}: {refusal}")?,
             None => println!(rt; "window {window}: taken")?,
@@ -116,7 +104,7 @@ pub fn over_two_tunnels(rt: &(impl AllocGlobal + Print)) -> anyhow::Result<()> {
         Link { a: 1, b: 2, cap: 4 },
         Link { a: 2, b: 3, cap: 4 },
     ];
-    let lower = Tunnel::new(ring_of(rt, &links)?, &[0, 2], 2);
+    let lower = Tunnel::new(Ring::with_room(rt.alloc(), &links)?, &[0, 2], 2);
     let mut carrier = Carrier::new(Tunnel::new(lower, &[6, 4], 1));
     carrier.describe(rt)?;
     for (line, frame) in [
