@@ -1,8 +1,8 @@
 use Rattle.std.proofs.Common.{vec_items, arith}
 use Rattle.frame.specs.Frames.{frame_value}
-use Rattle.plant.proofs.Laws.{Welcome, welcome}
+use Rattle.plant.proofs.Laws.{welcome}
 use Rattle.ring.specs.Rings.{value_of}
-use Rattle.ring.specs.Steps.{Stored, long}
+use Rattle.ring.specs.Steps.{long}
 use Rattle.ring.proofs.Told.{put_done}
 use Rattle.ring.proofs.ring.Ring.put.Goals as goal
 

@@ -1,6 +1,5 @@
 use Rattle.std.proofs.Common.{vec_items, arith}
 use Rattle.frame.specs.Frames.{frame_value}
-use Rattle.ring.specs.Steps.{Freed}
 use Rattle.ring.proofs.Told.{told_row, take_done}
 use Rattle.ring.proofs.ring.Ring.take.Goals as goal
 
