@@ -1,9 +1,15 @@
 pub mod Firsts
 pub mod Logical
 pub mod Lists
+pub mod Notes
+pub mod Goods
 pub mod Link
+pub mod News
+pub mod Loads
+pub mod Relabels
 pub mod Wiring
 pub mod Views
+pub mod Wired
 pub mod Labels
 pub mod Tells
 pub mod Arrivals
@@ -12,6 +18,8 @@ pub mod State
 pub mod Told
 pub mod Order
 pub mod Deals
+pub mod Owners
 pub mod Effects
+pub mod Polls
 pub mod Runs
 pub mod Citing

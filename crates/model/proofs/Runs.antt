@@ -2,6 +2,7 @@
 use Rattle.std.proofs.Common.{◌≡◌, ℕ, suc, ◌<◌, ◌≤◌, Bool, true, false, ◌||◌, ltb, ◌≢◌, List, [], ◌∷◌, ◌++◌, map, length, Some, None, Option, sym, refl, ap, ◌∙◌, subst, inl, inr, append-nil, arith, length-append}
 use Rattle.std.proofs.lemmas.Bool.{cases_Bool, ltb-false}
 use Rattle.frame.specs.Frames.{FrameValue}
+use Rattle.std.proofs.lemmas.Option.{slice_get_past}
 use Rattle.plant.specs.Plants.{Shape, ShapeLaws, PlantValue, Lawful, total, sum_to}
 use Rattle.plant.proofs.Sums.{sum_same, sum_zero, sum_none}
 use Rattle.model.specs.declared.cause.Cause.TheVariants.{UnknownLabel}
@@ -15,12 +16,12 @@ use Rattle.model.specs.Promises.{carriers, carriers_in, Owned, Exits, Safe, Netw
 use Rattle.model.proofs.Logical.{Item, mapping, withdraw, release, packet, note, good, wire}
 use Rattle.model.proofs.Lists.{hit_tells}
 use Rattle.model.proofs.Firsts.{never}
-use Rattle.model.proofs.Books.{alive, length-settle, counts, at_past}
+use Rattle.model.proofs.Books.{alive, length-settle, counts}
 use Rattle.model.proofs.State.{Inv, loads}
 use Rattle.model.proofs.Order.{Ordered, ordered_start, ordered_next}
 use Rattle.model.proofs.Told.{closed_shows, none_or_one, Tells, newcomers, tells_entered, tells_ended, tells_on}
 use Rattle.model.proofs.Deals.{Closing, Closes, Sound}
-use Rattle.model.proofs.Effects.{sound}
+use Rattle.model.proofs.Polls.{sound}
 
 -- one event more
 exits_next : {A : Type 0} (P : Plan A) (h : History A) (x : Event A) → Exits P h
@@ -115,7 +116,7 @@ module _ {A : Type 0} (P : Plan A) (S : Shape) (law : ShapeLaws S) (kept : 80 �
   step_reached : (h : History A) (s : State A) (event : Event A) (s' : State A) → Reached h s → Step P s event s' → Reached (event ∷ h) s'
   step_reached h s event s' m t =
       let k : Effect A = effect P S event.call t.turn (with_plant t.left s) in
-      takes_reached h s m t.left k event (sound P S law kept s m.q m.inv event.call t.turn t.left t.served) s'
+      takes_reached h s m t.left k event (sound P law kept m.inv event.call t.turn t.left t.served) s'
       (subst (λ z. Takes t.left (effect P z event.call t.turn (with_plant t.left s)) event s') m.inv.shape t.takes)
 
 nothing_waits : (v : PlantValue) → total v ≡ 0 → (e : ℕ) → e < v.shape.lines → v.waiting e ≡ []
@@ -266,7 +267,7 @@ module _ {A : Type 0} (P : Plan A) (v : PlantValue) (lawful : Lawful v) where
             shown = λ p x e. (closed_shows x (ends p h) (t p x e).3).0;
             carried = λ p x e. c p ∙ ap alive e;
             unknown = λ p le.
-                let none = at_past s.book p (omega (arith, m.taken)) in
+                let none = slice_get_past s.book p (omega (arith, m.taken)) in
                 (subst (λ z. Tells P p z (taken_in h) (ends p h)) none (m.told p), λ _. c p ∙ ap alive none);
           };
           lines = record {
