@@ -21,5 +21,7 @@ pub mod Deals
 pub mod Owners
 pub mod Effects
 pub mod Polls
+pub mod Reached
+pub mod Standing
 pub mod Runs
 pub mod Citing
