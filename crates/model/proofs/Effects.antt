@@ -19,7 +19,8 @@ use Rattle.model.proofs.Labels.{refresh_keeps}
 use Rattle.model.proofs.Order.{unless_both}
 use Rattle.model.proofs.Tells.{Sent, message_sent}
 use Rattle.model.proofs.Books.{fec_by, at_last}
-use Rattle.model.proofs.State.{Light, joins, Inv, sent_keeps, taken_keeps}
+use Rattle.model.proofs.Carried.{Light}
+use Rattle.model.proofs.State.{joins, Inv, sent_keeps, taken_keeps}
 use Rattle.model.proofs.Deals.{Sound, retabled_sound, InHand, Dealt, deal_sound, dropping, handle_dealt}
 use Rattle.model.proofs.Owners.{refresh_owner, refused_owns, marked, passed, hop_lies}
 

@@ -14,6 +14,7 @@ pub mod Labels
 pub mod Tells
 pub mod Arrivals
 pub mod Books
+pub mod Carried
 pub mod State
 pub mod Told
 pub mod Order

@@ -20,7 +20,8 @@ use Rattle.model.proofs.Wired.{Wired}
 use Rattle.model.proofs.Labels.{refresh_keeps, tidy_keeps}
 use Rattle.model.proofs.Arrivals.{mapping_range, mapping_read, withdraw_range, withdraw_known, withdraw_read, release_stage, release_range, release_read, packet_live, packet_range, packet_read}
 use Rattle.model.proofs.Books.{alive, fec_in, fec_by}
-use Rattle.model.proofs.State.{carries_first, Inv, handed_keeps, in_hand}
+use Rattle.model.proofs.Carried.{carries_first}
+use Rattle.model.proofs.State.{Inv, handed_keeps, in_hand}
 use Rattle.model.proofs.Deals.{Sound, retabled_sound, InHand, deal_sound, waits_still, status_dealt}
 use Rattle.model.proofs.Owners.{tidy_owner, refresh_owner, is_this_lem, is_label_lem}
 use Rattle.model.proofs.Effects.{only_sound, own_plain, route_plain, inject_plain, tell_plain}

@@ -1,13 +1,13 @@
 -- What holds after each history of a network that runs, and that an event of sound effect keeps it. Assumes the laws of a plant's
 -- lines, and that labels under 80 can be sent.
-use Rattle.std.proofs.Common.{◌≡◌, ℕ, ◌≤◌, Bool, true, ◌≢◌, List, [], ◌∷◌, ◌++◌, length, Some, None, Option, sym, ap, ◌∙◌, subst, arith, length-append}
+use Rattle.std.proofs.Common.{◌≡◌, ℕ, ◌≤◌, ◌≢◌, List, ◌∷◌, ◌++◌, length, Some, None, Option, sym, ap, ◌∙◌, subst, arith, length-append}
 use Rattle.std.proofs.lemmas.List.{length-map}
 use Rattle.frame.specs.Frames.{FrameValue}
 use Rattle.plant.specs.Plants.{Shape, ShapeLaws, PlantValue}
 use Rattle.model.specs.declared.cause.Cause.TheVariants.{UnknownLabel}
 use Rattle.model.specs.declared.fate.Fate.TheVariants.{Delivered}
 use Rattle.model.specs.declared.met.Met.TheVariants.{Stray}
-use Rattle.model.specs.Packets.{Record, End, at, settle}
+use Rattle.model.specs.Packets.{End, at, settle}
 use Rattle.model.specs.Calls.{Plan, State, Call, polled, Effect, record_of, effect}
 use Rattle.model.specs.History.{Event, History, Sending, Takes, Step, with_plant, Incoming, owns, owned_by, is_done, injected, taken_in, end_of, ends}
 use Rattle.model.specs.Promises.{Owned, Exits}

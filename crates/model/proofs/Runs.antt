@@ -12,7 +12,7 @@ use Rattle.model.specs.Promises.{carriers, carriers_in, Safe, NetworkSafe}
 use Rattle.model.proofs.Logical.{Item, mapping, withdraw, release, packet, note, good, wire}
 use Rattle.model.proofs.Lists.{hit_tells}
 use Rattle.model.proofs.Books.{alive, counts}
-use Rattle.model.proofs.State.{loads}
+use Rattle.model.proofs.Carried.{loads}
 use Rattle.model.proofs.Order.{Ordered, ordered_start, ordered_next}
 use Rattle.model.proofs.Told.{closed_shows, Tells}
 use Rattle.model.proofs.Reached.{Reached, step_reached}

@@ -1,9 +1,8 @@
 -- A network that stands still is safe after each history. Assumes nothing.
-use Rattle.std.proofs.Common.{◌≡◌, ℕ, ◌<◌, true, List, [], ◌∷◌, ◌++◌, length, Some, sym, refl, ap, ◌∙◌, subst, append-nil, arith}
+use Rattle.std.proofs.Common.{◌≡◌, ℕ, ◌<◌, true, [], ◌∷◌, ◌++◌, length, sym, refl, ap, ◌∙◌, subst, append-nil, arith}
 use Rattle.std.proofs.lemmas.List.{nil_from_length}
 use Rattle.plant.specs.Plants.{PlantValue, total}
 use Rattle.plant.proofs.Sums.{sum_zero, sum_none}
-use Rattle.model.specs.Packets.{Record, End}
 use Rattle.model.specs.Calls.{Plan, State}
 use Rattle.model.specs.History.{Event, History, fresh_state, is_still, Stands, Goes, Run, start, next, injected, taken_in, end_of, ends, sent_on, given_of, on_line, polls, non_idle, spans, span_of}
 use Rattle.model.specs.Promises.{carriers, Exits, Safe}
