@@ -1,31 +1,23 @@
 -- The book: what a new record and an end change. Assumes nothing.
-use Rattle.std.proofs.Common.{◌≡◌, ℕ, zero, suc, ◌+◌, ◌≤◌, List, [], ◌∷◌, ◌++◌, length, Some, None, Option, refl, ap, arith}
+use Rattle.std.proofs.Common.{◌≡◌, ℕ, zero, suc, ◌+◌, List, [], ◌∷◌, ◌++◌, length, Some, None, Option, refl, ap, arith}
+use Rattle.std.proofs.lemmas.Grind.{common_steps}
+use Rattle.std.proofs.lemmas.Option.{gets}
 use Rattle.model.specs.declared.fate.Fate.{Fate}
 use Rattle.model.specs.declared.fate.Fate.TheVariants.{Waiting, Delivered, Dropped}
 use Rattle.model.specs.Tables.{the}
 use Rattle.model.specs.Packets.{Record, End, at, revise, close, settle, is_fate, is_waiting}
 use Rattle.model.specs.Promises.{one, count}
-use Rattle.model.proofs.Firsts.{never}
 
 module _ {X : Type 0} where
-  pub at_past : (xs : List X) (p : ℕ) → length xs ≤ p → at xs p ≡ None
-  at_past [] p l = refl
-  at_past (x ∷ xs) zero l = absurd (omega arith)
-  at_past (x ∷ xs) (suc p) l = at_past xs p (omega arith)
-
   pub at_last : (xs : List X) (x : X) → at (xs ++ x ∷ []) (length xs) ≡ Some x
-  at_last [] x = refl
-  at_last (y ∷ xs) x = at_last xs x
+  at_last xs x = grind (arith, common_steps, gets)
 
   pub at_other : (xs : List X) (x : X) (p : ℕ) → (p ≡ length xs → ⊥) → at (xs ++ x ∷ []) p ≡ at xs p
-  at_other [] x zero n = absurd (n refl)
-  at_other [] x (suc p) n = refl
-  at_other (y ∷ xs) x zero n = refl
-  at_other (y ∷ xs) x (suc p) n = at_other xs x p (λ e. n (ap suc e))
+  at_other xs x p n = grind (arith, common_steps, gets)
 
   pub revise_here : (g : X → X) (p : ℕ) (xs : List X) (x : X) → at xs p ≡ Some x → at (revise g p xs) p ≡ Some (g x)
-  revise_here g p [] x e = absurd (never (cc))
-  revise_here g zero (y ∷ xs) x e = let z : y ≡ x = cc in ap (λ i. Some (g i)) z
+  revise_here g p [] x e = cc
+  revise_here g zero (y ∷ xs) x e = cc
   revise_here g (suc p) (y ∷ xs) x e = revise_here g p xs x e
 
   pub revise_other : (g : X → X) (p : ℕ) (xs : List X) (i : ℕ) → (i ≡ p → ⊥) → at (revise g p xs) i ≡ at xs i
@@ -35,15 +27,13 @@ module _ {X : Type 0} where
   revise_other g (suc p) (y ∷ xs) zero n = refl
   revise_other g (suc p) (y ∷ xs) (suc i) n = revise_other g p xs i (λ e. n (ap suc e))
 
-  pub length-revise : (g : X → X) (p : ℕ) (xs : List X) → length (revise g p xs) ≡ length xs
+  length-revise : (g : X → X) (p : ℕ) (xs : List X) → length (revise g p xs) ≡ length xs
   length-revise g p [] = refl
   length-revise g zero (y ∷ xs) = refl
-  length-revise g (suc p) (y ∷ xs) = let r = length-revise g p xs in omega arith
+  length-revise g (suc p) (y ∷ xs) = ap suc (length-revise g p xs)
 
 fate_counts : (o : Fate) → one (is_fate Delivered o) + one (is_fate Dropped o) + one (is_fate Waiting o) ≡ 1
-fate_counts Waiting = refl
-fate_counts Delivered = refl
-fate_counts Dropped = refl
+fate_counts o = grind arith
 
 module _ {A : Type 0} where
   -- 1 if there is such a packet and it waits
@@ -76,4 +66,4 @@ module _ {A : Type 0} where
 
   pub counts : (b : List (Record A)) → length b ≡ count Delivered b + count Dropped b + count Waiting b
   counts [] = refl
-  counts (x ∷ b) = let r = counts b in omega (arith, fate_counts x.fate)
+  counts (x ∷ b) = omega (arith, counts b, fate_counts x.fate)

@@ -10,7 +10,6 @@ use Rattle.plant.specs.Futures.{Turn, idle, turn_is}
 use Rattle.model.specs.Packets.{settle}
 use Rattle.model.specs.Calls.{Plan, State, Call, own, route, inject, tell, poll, Answer, refused, Effect, only, unless, refusal, polling, act, effect}
 use Rattle.model.specs.History.{Event, History, Turns, port_of, Serves, given_by, Sending, Takes, with_plant, Goes, Did, is_still, Run, next}
-use Rattle.model.proofs.Firsts.{never}
 
 -- a poll of the plant came to a turn
 pub polled_turns : (o : Outcome) (v : PlantValue) (p : ℕ) (old : Frame) (l : ℕ) (new : Frame) (w : PlantValue) → Polled o v p old l new w
@@ -41,7 +40,7 @@ module _ {A : Type 0} (P : Plan A) (s : State A) where
       unpolled (route r f h) e = (refl, refl)
       unpolled (inject r a ttl) e = (refl, refl)
       unpolled (tell l) e = (refl, refl)
-      unpolled (poll p) e = absurd (never (cc))
+      unpolled (poll p) e = absurd (cc)
 
   -- a call that polls no port, and was not refused, did what it does
   pub did_act : (c : Call A) → port_of c ≡ None → refusal P s.plant.shape c s ≡ None

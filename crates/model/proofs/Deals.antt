@@ -3,7 +3,7 @@
 use Rattle.std.proofs.Common.{◌≡◌, ℕ, suc, ◌-◌, ◌<◌, ◌≤◌, Bool, true, false, cond, leb, ◌≢◌, List, [], ◌∷◌, ◌++◌, length, Some, None, Option, sym, refl, ap, ◌∙◌, subst, append-nil, arith}
 use Rattle.std.proofs.lemmas.Bool.{cond_both, lt-leb}
 use Rattle.frame.specs.Frames.{FrameValue}
-use Rattle.plant.specs.Plants.{Shape, ShapeLaws, PlantValue, over_kept}
+use Rattle.plant.specs.Plants.{Shape, ShapeLaws, PlantValue}
 use Rattle.model.specs.declared.cause.Cause.{Cause}
 use Rattle.model.specs.declared.cause.Cause.TheVariants.{UnknownLabel, TtlSpent, LeavingLabel, NoNextHop, NoRemoteLabel, NoRoom}
 use Rattle.model.specs.declared.fate.Fate.{Fate}
@@ -14,18 +14,15 @@ use Rattle.model.specs.Packets.{Record, End, at, settle, is_fate, is_full, Verdi
 use Rattle.model.specs.Calls.{Plan, State, Call, Answer, polled, Effect, retabled, send_by, end_by, deal}
 use Rattle.model.specs.History.{Sending, is_done, owned_by, injected}
 use Rattle.model.specs.Promises.{one}
-use Rattle.model.proofs.Logical.{Item, packet, good, wire}
+use Rattle.model.proofs.Logical.{Item, packet, good}
 use Rattle.model.proofs.Views.{phase_of}
-use Rattle.model.proofs.Firsts.{never}
 use Rattle.model.proofs.Arrivals.{packet_sent, remote_range}
 use Rattle.model.proofs.Books.{alive, fec_in, fec_by}
 use Rattle.model.proofs.State.{joins, Inv, in_hand, ended_keeps, forwarded_keeps}
 use Rattle.model.proofs.Told.{newcomers}
 
 waits_one : (o : Fate) → one (is_fate Waiting o) ≡ 1 → is_fate Waiting o ≡ true
-waits_one Waiting e = refl
-waits_one Delivered e = absurd (never e)
-waits_one Dropped e = absurd (never e)
+waits_one o e = grind arith
 
 module _ {A : Type 0} (P : Plan A) (S : Shape) where
   -- the packet that ends was waiting; its end is an end, not for an unknown label, and if it is delivered then at an owner of its FEC
@@ -72,71 +69,80 @@ module _ {A : Type 0} (P : Plan A) (S : Shape) where
     after = unsent t s.book v q k;
   }
 
-  module _ (law : ShapeLaws S) (kept : 80 ≤ S.kept) where
-    -- a packet in hand is dealt with
-    module _ (s : State A) (q : ℕ → List Item) (p : ℕ) (x : Record A) (k : Inv S P.fecs s q (suc p)) (px : at s.book p ≡ Some x)
-        (r ttl : ℕ) where
-      pub record Dealt (y : Verdict) : Type 0 where
-        pub closes : Closes s.tables.owner s.book (end_by r p y)
-        pub after : Settled s.plant s.tables s.book (send_by p ttl y) (end_by r p y)
+  -- packet p is in hand, and the network else in step
+  pub record InHand (s : State A) (p : ℕ) : Type 0 where
+    pub q : ℕ → List Item
+    pub packet : Record A
+    pub inv : Inv S P.fecs s q (suc p)
+    pub found : at s.book p ≡ Some packet
 
-      pub waits_still : is_fate Waiting x.fate ≡ true
-      waits_still = waits_one x.fate (sym (ap alive px) ∙ in_hand S P.fecs s q p k)
+  -- what router r does with it, at this TTL, is sound
+  pub record Dealt (s : State A) (p r ttl : ℕ) (y : Verdict) : Type 0 where
+    pub closes : Closes s.tables.owner s.book (end_by r p y)
+    pub after : Settled s.plant s.tables s.book (send_by p ttl y) (end_by r p y)
 
-      pub deal_sound : (a : Answer) (call : Call A) (s₀ : State A)
-          → ((r f : ℕ) → s.tables.owner r f ≡ owned_by call (is_done a) r f (s₀.tables.owner r f))
-          → s.book ≡ s₀.book ++ newcomers P (length s₀.book) (injected call a) → ((e : ℕ) → a ≢ polled Stray e) → (y : Verdict) → Dealt y
-          → Sound call s₀ s.plant (deal a r p ttl y s)
-      deal_sound a call s₀ m c n y d = record { marks = m; came = c; closes = d.closes; no_stray = n; after = d.after }
+  pub deal_sound : {s : State A} {p r ttl : ℕ} {y : Verdict} (a : Answer) (call : Call A) (s₀ : State A)
+      → ((r f : ℕ) → s.tables.owner r f ≡ owned_by call (is_done a) r f (s₀.tables.owner r f))
+      → s.book ≡ s₀.book ++ newcomers P (length s₀.book) (injected call a) → ((e : ℕ) → a ≢ polled Stray e) → Dealt s p r ttl y
+      → Sound call s₀ s.plant (deal a r p ttl y s)
+  deal_sound a call s₀ m c n d = record { marks = m; came = c; closes = d.closes; no_stray = n; after = d.after }
 
-      ending : (d : End) → d.packet ≡ p → is_fate Waiting d.fate ≡ false → Settled s.plant s.tables s.book None (Some d)
-      ending d dp z = unsent s.tables (settle (Some d) s.book) s.plant q (ended_keeps S P.fecs s q p k d dp z)
+-- a packet in hand is dealt with
+module _ {A : Type 0} {P : Plan A} {S : Shape} {s : State A} {p : ℕ} (m : InHand P S s p) where
+  pub waits_still : is_fate Waiting m.packet.fate ≡ true
+  waits_still = waits_one m.packet.fate (sym (ap alive m.found) ∙ in_hand m.inv)
 
-      pub dropping : (c : Cause) → Some c ≢ Some UnknownLabel → Dealt (drop c)
-      dropping c n = record {
-        closes = record { packet = x; found = px; waited = waits_still; ends = refl; labelled = n; home = λ e. absurd (never (cc)) };
-        after = ending (record { packet = p; fate = Dropped; router = r; cause = Some c }) refl refl;
-      }
+  -- the packet ends here
+  ending : (d : End) → d.packet ≡ p → is_fate Waiting d.fate ≡ false → Settled P S s.plant s.tables s.book None (Some d)
+  ending d dp z = unsent P S s.tables (settle (Some d) s.book) s.plant m.q (ended_keeps m.inv d dp m.found z)
 
-      module _ (f : ℕ) (xf : x.fec ≡ Some f) where
-        delivering : s.tables.owner r f ≡ true → Dealt deliver
-        delivering o = record {
-          closes = record { packet = x; found = px; waited = waits_still; ends = refl; labelled = λ e. never (cc); home = λ e. (f, xf, o) };
-          after = ending (record { packet = p; fate = Delivered; router = r; cause = None }) refl refl;
-        }
+  pub dropping : (r ttl : ℕ) (c : Cause) → Some c ≢ Some UnknownLabel → Dealt P S s p r ttl (drop c)
+  dropping r ttl c n = record {
+    closes = record { packet = m.packet; found = m.found; waited = waits_still; ends = refl; labelled = n; home = λ e. absurd (cc) };
+    after = ending (record { packet = p; fate = Dropped; router = r; cause = Some c }) refl refl;
+  }
 
-        forwarding : (e l : ℕ) → e < S.lines → s.tables.remote e f ≡ Some l → is_full s.plant e ≡ false → Dealt (forward e l)
-        forwarding e l le rm fl = record {
-          closes = tt;
-          after = λ sent w h.
-              let y : Item = good (packet p l (ttl - 1)) in
-              let small = remote_range S law P.fecs s.tables q (fec_by s.book) k.wired e le f l rm in
-              let light : over_kept S.kept (wire y).stack ≡ false = lt-leb S.kept l (omega (arith, small)) in
-              let j = joins S s.plant w e y sent k.shape le fl (light, law.depth_least) h in
-              let same : fec_by s.book p ≡ f = ap fec_in px ∙ ap the xf in (
-                put q e (q e ++ y ∷ []),
-                forwarded_keeps S P.fecs s q p k e l (ttl - 1) x f px xf w le j
-                    (packet_sent S law P.fecs s.tables q (fec_by s.book) k.wired e le p l (ttl - 1) (ap (s.tables.remote e) same ∙ rm)),
-              );
-        }
+  module _ (law : ShapeLaws S) (kept : 80 ≤ S.kept) (r ttl f : ℕ) (xf : m.packet.fec ≡ Some f) where
+    abbrev Fine : Verdict → Type 0
+    Fine y = Dealt P S s p r ttl y
 
-        along_dealt : (e : ℕ) → e < S.lines → (o : Option ℕ) → s.tables.remote e f ≡ o → Dealt (along s.plant e o)
-        along_dealt e le None eo = dropping NoRemoteLabel (λ z. never (cc))
-        along_dealt e le (Some l) eo =
-            cond_both (is_full s.plant e) (drop NoRoom) (forward e l) Dealt (λ _. dropping NoRoom (λ z. never (cc))) (λ u. forwarding e l le eo u)
+    delivering : s.tables.owner r f ≡ true → Fine deliver
+    delivering o = record {
+      closes = record { packet = m.packet; found = m.found; waited = waits_still; ends = refl; labelled = λ e. cc; home = λ e. (f, xf, o) };
+      after = ending (record { packet = p; fate = Delivered; router = r; cause = None }) refl refl;
+    }
 
-        onward_dealt : (o : Option ℕ) → s.tables.hop r f ≡ o → Dealt (onward s.tables s.plant f o)
-        onward_dealt None eo = dropping NoNextHop (λ z. never (cc))
-        onward_dealt (Some e) eo = along_dealt e (k.wired.hops r f e eo) (s.tables.remote e f) refl
+    forwarding : (e l : ℕ) → e < S.lines → s.tables.remote e f ≡ Some l → is_full s.plant e ≡ false → Fine (forward e l)
+    forwarding e l le rm fl = record {
+      closes = tt;
+      after = λ sent w h.
+          let y : Item = good (packet p l (ttl - 1)) in
+          let small = remote_range m.inv.wired le f l rm in
+          let j = joins m.inv y le fl (lt-leb S.kept l (omega (arith, small)), law.depth_least) h in
+          let same : fec_by s.book p ≡ f = ap fec_in m.found ∙ ap the xf in (
+            put m.q e (m.q e ++ y ∷ []),
+            forwarded_keeps m.inv e l (ttl - 1) m.found xf le j
+                (packet_sent m.inv.wired le p l (ttl - 1) (ap (s.tables.remote e) same ∙ rm)),
+          );
+    }
 
-        pub handle_dealt : Dealt (handle s.tables s.plant r f ttl)
-        handle_dealt =
-            let y : Verdict = onward s.tables s.plant f (s.tables.hop r f) in
-            cond_both (leb ttl 1) (drop TtlSpent) (cond (s.tables.owner r f) deliver y) Dealt
-            (λ _. dropping TtlSpent (λ z. never (cc)))
-            (λ _. cond_both (s.tables.owner r f) deliver y Dealt (λ o. delivering o) (λ _. onward_dealt (s.tables.hop r f) refl))
+    along_dealt : (e : ℕ) → e < S.lines → (o : Option ℕ) → s.tables.remote e f ≡ o → Fine (along s.plant e o)
+    along_dealt e le None eo = dropping r ttl NoRemoteLabel (λ z. cc)
+    along_dealt e le (Some l) eo =
+        cond_both (is_full s.plant e) (drop NoRoom) (forward e l) Fine (λ _. dropping r ttl NoRoom (λ z. cc)) (λ u. forwarding e l le eo u)
 
-        pub status_dealt : (y : Status) → (phase_of y ≡ 0 → ⊥) → fec_of y ≡ f → Dealt (by_status s.tables s.plant r ttl y)
-        status_dealt free n g = absurd (n refl)
-        status_dealt (leaving j) n g = dropping LeavingLabel (λ z. never (cc))
-        status_dealt (bound j) n g = subst (λ i. Dealt (handle s.tables s.plant r i ttl)) (sym g) handle_dealt
+    onward_dealt : (o : Option ℕ) → s.tables.hop r f ≡ o → Fine (onward s.tables s.plant f o)
+    onward_dealt None eo = dropping r ttl NoNextHop (λ z. cc)
+    onward_dealt (Some e) eo = along_dealt e (m.inv.wired.hops r f e eo) (s.tables.remote e f) refl
+
+    pub handle_dealt : Fine (handle s.tables s.plant r f ttl)
+    handle_dealt =
+        let y : Verdict = onward s.tables s.plant f (s.tables.hop r f) in
+        cond_both (leb ttl 1) (drop TtlSpent) (cond (s.tables.owner r f) deliver y) Fine
+        (λ _. dropping r ttl TtlSpent (λ z. cc))
+        (λ _. cond_both (s.tables.owner r f) deliver y Fine (λ o. delivering o) (λ _. onward_dealt (s.tables.hop r f) refl))
+
+    pub status_dealt : (y : Status) → (phase_of y ≡ 0 → ⊥) → fec_of y ≡ f → Fine (by_status s.tables s.plant r ttl y)
+    status_dealt free n g = absurd (n refl)
+    status_dealt (leaving j) n g = dropping r ttl LeavingLabel (λ z. cc)
+    status_dealt (bound j) n g = rw g handle_dealt

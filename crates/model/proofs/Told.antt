@@ -1,12 +1,13 @@
 -- The book and the history of a run tell the same. Assumes nothing.
 use Rattle.std.proofs.Common.{◌≡◌, ℕ, ◌≤◌, true, false, eqb, ◌⊎◌, List, [], ◌∷◌, ◌++◌, map, length, Some, None, Option, sym, refl, ap, ◌∙◌, subst, inl, inr, append-nil, arith}
 use Rattle.std.proofs.lemmas.Bool.{cases_eq, cond-true, cond-false, eq-eqb, ne_eqb, both_ways}
+use Rattle.std.proofs.lemmas.Option.{slice_get_past}
 use Rattle.model.specs.declared.fate.Fate.TheVariants.{Waiting}
 use Rattle.model.specs.Packets.{Record, End, at, close, settle, is_fate}
 use Rattle.model.specs.Calls.{Plan, Call, own, route, inject, tell, poll, Answer, done, refused, polled, record_of}
 use Rattle.model.specs.History.{Incoming, entry_of, injected, end_of}
 use Rattle.model.specs.Promises.{Shows}
-use Rattle.model.proofs.Books.{at_past, at_last, at_other, revise_here, revise_other}
+use Rattle.model.proofs.Books.{at_last, at_other, revise_here, revise_other}
 
 module _ {A : Type 0} where
   -- a record with the ends of its packet: none or one
@@ -65,7 +66,7 @@ module _ {A : Type 0} where
           let x : Record A = record_of P (length b) y.ingress y.address y.ttl in
           subst (λ z. Tells p (at (b ++ newcomers (length b) z) p) (T ++ z) (es p)) (sym e) (elim (cases_eq p (length b)) [
             | inl u ↦
-                let none : es p ≡ [] = subst (λ z. Tells p z T (es p)) (at_past b p (omega arith)) (t p) in
+                let none : es p ≡ [] = subst (λ z. Tells p z T (es p)) (slice_get_past b p (omega arith)) (t p) in
                 subst (λ z. Tells p z (T ++ y ∷ []) (es p)) (sym (ap (at (b ++ x ∷ [])) u ∙ at_last b x))
                 (sym u, ap (at (T ++ y ∷ [])) (u ∙ sym len) ∙ at_last T y, refl, subst (Closed x) (sym none) (refl, refl, refl))
             | inr n ↦ subst (λ z. Tells p z (T ++ y ∷ []) (es p)) (sym (at_other b x p n))

@@ -1,24 +1,22 @@
 -- Partner lines. Assumes the laws of a plant's lines.
-use Rattle.std.proofs.Common.{◌≡◌, ℕ, ◌+◌, ◌-◌, ◌*◌, ◌/◌, ◌%◌, ◌<◌, eqb, ◌⊎◌, sym, ap, ◌∙◌, inl, inr, arith}
-use Rattle.std.proofs.lemmas.Bool.{cases_eq, cond-true, cond-false, eq-eqb, ne_eqb}
+use Rattle.std.proofs.Common.{◌≡◌, ℕ, ◌+◌, ◌*◌, ◌/◌, ◌%◌, ◌<◌, ◌⊎◌, sym, ap, ◌∙◌, inl, inr, arith}
+use Rattle.std.proofs.lemmas.Bool.{cases_eq}
+use Rattle.std.proofs.lemmas.Bool.Decides.{nat_tests}
 use Rattle.plant.specs.Plants.{Shape, ShapeLaws, partner}
 
 -- e is even and its partner is the next, or it is odd and its partner is the one before
 pub partner_tells : (e : ℕ) → ((k : ℕ) × (e ≡ 2 * k) × (partner e ≡ 2 * k + 1)) ⊎ ((k : ℕ) × (e ≡ 2 * k + 1) × (partner e ≡ 2 * k))
 partner_tells e = elim (cases_eq (e % 2) 0) [
-  | inl z ↦ let g : partner e ≡ e + 1 = cond-true (eqb (e % 2) 0) (e + 1) (e - 1) (eq-eqb (e % 2) 0 z) in inl (e / 2, omega arith, omega arith)
-  | inr n ↦ let g : partner e ≡ e - 1 = cond-false (eqb (e % 2) 0) (e + 1) (e - 1) (ne_eqb (e % 2) 0 n) in inr (e / 2, omega arith, omega arith)
+  | inl z ↦ inl (e / 2, omega arith, grind (arith, nat_tests))
+  | inr n ↦ inr (e / 2, omega arith, grind (arith, nat_tests))
 ]
 
 pub back : (e : ℕ) → partner (partner e) ≡ e
-back e = elim (partner_tells e) [
-  | inl a ↦ elim (partner_tells (partner e)) [ inl b ↦ omega arith | inr b ↦ omega arith ]
-  | inr a ↦ elim (partner_tells (partner e)) [ inl b ↦ omega arith | inr b ↦ omega arith ]
-]
+back e = grind (arith, partner_tells e, partner_tells (partner e))
 
-module _ (S : Shape) (law : ShapeLaws S) where
+module _ {S : Shape} (law : ShapeLaws S) where
   pub stands : (e : ℕ) → e < S.lines → partner e < S.lines
-  stands e le = elim (partner_tells e) [ inl a ↦ omega (arith, law.even) | inr a ↦ omega arith ]
+  stands e le = grind (arith, partner_tells e, law.even)
 
   pub begins : (e : ℕ) → e < S.lines → (S.line (partner e)).from ≡ (S.line e).to
   begins e le = elim (partner_tells e) [

@@ -1,5 +1,7 @@
 -- Packets: their records in the book, their ends, and what a router does with one in hand. Assumes nothing.
 use Rattle.std.specs.Prelude.{ℕ, zero, suc, Bool, false, cond, List, [], ◌∷◌, length, Some, None, Option, ◌==◌, nat_le}
+-- the element of a number
+pub use Rattle.std.specs.List.{slice_get as at}
 use Rattle.frame.specs.declared.entry.Entry.{Entry}
 use Rattle.frame.specs.declared.kind.Kind.TheVariants.{Data}
 use Rattle.frame.specs.Frames.{FrameValue}
@@ -37,12 +39,6 @@ fate_number Dropped = 2
 -- the two fates are the same
 abbrev pub is_fate : Fate → Fate → Bool
 is_fate o x = fate_number o == fate_number x
-
--- the element of a number
-abbrev pub at : {X : Type 0} → List X → ℕ → Option X
-at [] p = None
-at (x ∷ xs) zero = Some x
-at (x ∷ xs) (suc p) = at xs p
 
 -- the element of a number changed
 abbrev pub revise : {X : Type 0} → (X → X) → ℕ → List X → List X

@@ -1,5 +1,7 @@
 -- The routers' tables, and how labels are bound, withdrawn and freed. Assumes nothing.
 use Rattle.std.specs.Prelude.{ℕ, zero, suc, Bool, true, false, cond, not, ◌&&◌, ◌||◌, Some, None, Option, ◌==◌, nat_le, nat_lt}
+-- there is one
+pub use Rattle.std.specs.Option.{is_some}
 use Rattle.plant.specs.Plants.{Shape}
 
 -- a label of a router is free, bound to a FEC, or leaving it
@@ -110,11 +112,6 @@ abbrev pub fec_of : Status → ℕ
 fec_of free = 0
 fec_of (bound f) = f
 fec_of (leaving f) = f
-
--- there is one
-abbrev pub is_some : {X : Type 0} → Option X → Bool
-is_some None = false
-is_some (Some x) = true
 
 -- the number that there is, else 0
 abbrev pub the : Option ℕ → ℕ
