@@ -1,5 +1,6 @@
 pub mod Same
 pub mod Firsts
+pub mod Ranges
 pub mod Puts
 pub mod Grids
 pub mod Changes

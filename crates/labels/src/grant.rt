@@ -9,6 +9,8 @@ pub struct Grant {
     ghost real: { (router < 16) × (16 ≤ label) × (label < 80) },
 }
 
+// `spent` is a flag, since a `Drop` that requires what never holds is refused, and without a `Drop` a forgotten label would not
+// be refused by a proof: it would not compile.
 impl Drop for Grant {
     fn drop(self)
         requires { IsTrue self.spent }

@@ -11,7 +11,7 @@ ghost use Rattle.labels.specs.Wirings.{Wired, quiet_on};
 
 use crate::labels::Labels;
 use crate::pool::Pool;
-use crate::stage::{News, Stage};
+use crate::stage::Stage;
 use crate::stages::Stages;
 use crate::status::Status;
 use crate::wiring::Wiring;
@@ -51,7 +51,7 @@ impl Labels {
             (with_labels (labelled self.old t).status (put2 (labelled self.old t).stage line label untold) t) }
         ensures kept { self.new.wiring ≡ self.old.wiring }
     {
-        let router = self.wiring.to[line];
+        let router = self.wiring.to(line).unwrap();
         self.stages.untell(line, label);
         self.tidy(router, label);
     }
@@ -80,9 +80,8 @@ impl Labels {
             ≡ grant S router fec bound (free_label router (labelled self.old t)) (labelled self.old t) }
         ensures kept { self.new.wiring ≡ self.old.wiring }
     {
-        match bound {
-            Some(_) => {}
-            None => self.bind_first(router, fec),
+        if bound.is_none() {
+            self.bind_first(router, fec);
         }
     }
 
@@ -94,9 +93,8 @@ impl Labels {
             → labelled self.new t ≡ let_go S router fec bound (labelled self.old t) }
         ensures kept { self.new.wiring ≡ self.old.wiring }
     {
-        match bound {
-            Some(label) => self.unbind(router, fec, label),
-            None => {}
+        if let Some(label) = bound {
+            self.unbind(router, fec, label);
         }
     }
 
@@ -108,13 +106,11 @@ impl Labels {
             ≡ grant S router fec None (free_label router (labelled self.old t)) (labelled self.old t) }
         ensures kept { self.new.wiring ≡ self.old.wiring }
     {
-        match self.pool.take(router) {
-            Some(granted) => {
-                let label = granted.label();
-                self.pool.bind(granted, fec);
-                self.stages.tell(&self.wiring, router, label, News::Binds);
-            }
-            None => {}
+        if let Some(granted) = self.pool.take(router) {
+            let label = granted.label();
+            self.pool.bind(granted, fec);
+            self.stages
+                .tell(&self.wiring, router, label, |_| Stage::MappingDue);
         }
     }
 
@@ -128,7 +124,7 @@ impl Labels {
         ensures kept { self.new.wiring ≡ self.old.wiring }
     {
         self.pool.leave(router, label, fec);
-        self.stages.tell(&self.wiring, router, label, News::Leaves);
+        self.stages.tell(&self.wiring, router, label, Stage::fallen);
         self.tidy(router, label);
     }
 
@@ -148,9 +144,7 @@ impl Labels {
         ensures { result ≡ (is_leaving (statuses_of self.now.pool router label)
             && quiet_on self.now.wiring router label (stages_of self.now.stages)) }
     {
-        match self.pool.get(router, label) {
-            Status::Leaving(_) => self.stages.is_quiet(&self.wiring, router, label),
-            _ => false,
-        }
+        matches!(self.pool.get(router, label), Status::Leaving(_))
+            && self.stages.is_quiet(&self.wiring, router, label)
     }
 }

@@ -58,19 +58,14 @@ impl Stages {
     fn is_at(&self, line: usize, label: usize, stage: Stage) -> bool
         ensures { result ≡ (stages_of self.now line label == stage_number stage) }
     {
-        self.get(line, label).number() == stage.number()
+        self.get(line, label) == stage
     }
 
     // Whether a label is at no stage but Untold on all lines into its router.
     pub(crate) fn is_quiet(&self, wiring: &Wiring, router: usize, label: usize) -> bool
         ensures { result ≡ quiet_on wiring.now router label (stages_of self.now) }
     {
-        for line in 0..wiring.lines {
-            if self.is_held(wiring, line, router, label) {
-                return false;
-            }
-        }
-        true
+        !(0..wiring.lines).any(|line| self.is_held(wiring, line, router, label))
     }
 
     fn is_held(&self, wiring: &Wiring, line: usize, router: usize, label: usize) -> bool

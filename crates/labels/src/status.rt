@@ -3,7 +3,7 @@ ghost use Rattle.std.specs.Prelude.{◌≡◌};
 ghost use Rattle.model.specs.Tables.{fec_of};
 ghost use Rattle.labels.specs.Pools.{status_of, fits};
 
-#[derive(Clone, Copy)]
+#[derive(Clone, Copy, PartialEq, Eq, Debug)]
 pub enum Status {
     Free,
     // granted, and not yet bound or given back
@@ -39,10 +39,8 @@ impl Status {
         ensures { result ≡ fec_of (status_of self) }
     {
         match self {
-            Status::Free => 0,
-            Status::Taken => 0,
-            Status::Bound(fec) => fec,
-            Status::Leaving(fec) => fec,
+            Status::Free | Status::Taken => 0,
+            Status::Bound(fec) | Status::Leaving(fec) => fec,
         }
     }
 }
