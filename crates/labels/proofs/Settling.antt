@@ -1,5 +1,5 @@
 -- Pools in which no label is taken. Assumes nothing.
-use Rattle.std.proofs.Common.{◌≡◌, ℕ, false, refl, ap, ◌∙◌, inl, inr}
+use Rattle.std.proofs.Common.{◌≡◌, ℕ, Bool, true, false, cond, Some, None, refl, ap, ◌∙◌, inl, inr}
 use Rattle.std.proofs.lemmas.Bool.{true≢false}
 use Rattle.model.specs.Tables.{put2, first_label, is_free}
 use Rattle.labels.specs.declared.pool.Pool.{Pool}
@@ -8,13 +8,18 @@ use Rattle.labels.specs.declared.status.Status.TheVariants.{Free, Taken, Bound, 
 use Rattle.labels.specs.Pools.{slots, status_of, statuses_of, is_open, is_taken, Settled}
 use Rattle.labels.specs.Grants.{smallest_open}
 use Rattle.labels.proofs.Firsts.{label_same}
-use Rattle.labels.proofs.Puts.{places, put2_here, put2_there, put2_over, put2_through}
+use Rattle.grid.proofs.Puts.{places, put2_here, put2_there, put2_over, put2_through}
 
 open_free : (x : Status) → is_taken x ≡ false → is_open x ≡ is_free (status_of x)
 open_free Free e = refl
 open_free Taken e = absurd (true≢false e)
 open_free (Bound f) e = refl
 open_free (Leaving f) e = refl
+
+-- a number made of a number is that number
+pub made : (b : Bool) (n m : ℕ) → cond b (Some n) None ≡ Some m → m ≡ n
+made true n m e = cc e
+made false n m e = cc e
 
 -- what may be taken is what the model calls free
 pub open_is_free : (p : Pool) (r : ℕ) → Settled p → smallest_open p r ≡ first_label (λ l. is_free (statuses_of p r l))

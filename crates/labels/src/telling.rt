@@ -1,5 +1,5 @@
 // How news of a label changes its stages.
-ghost use Rattle.std.specs.Prelude.{◌≡◌, ℕ, ◌<◌, ◌≤◌};
+ghost use Rattle.std.specs.Prelude.{◌≡◌, ℕ};
 ghost use Rattle.plant.specs.Plants.{Shape};
 ghost use Rattle.model.specs.Tables.{untold, put2, on_lines_into};
 ghost use Rattle.labels.specs.Numbers.{Follows};
@@ -9,13 +9,11 @@ ghost use Rattle.labels.specs.Wirings.{Wired};
 use crate::stage::Stage;
 use crate::stages::Stages;
 use crate::wiring::Wiring;
+use grid::{Label, Line, Router};
 
 impl Stages {
     // Nothing is left to tell of a label on a line.
-    pub(crate) fn untell(&mut self, line: usize, label: usize)
-        requires line { line < 48 }
-        requires least { 16 ≤ label }
-        requires most { label < 80 }
+    pub(crate) fn untell(&mut self, line: Line, label: Label)
         ensures { stages_of self.new ≡ put2 (stages_of self.old) line label untold }
     {
         self.put(line, label, Stage::Untold);
@@ -25,19 +23,18 @@ impl Stages {
     pub(crate) fn tell<F: Fn(Stage) -> Stage>(
         &mut self,
         wiring: &Wiring,
-        router: usize,
-        label: usize,
+        router: Router,
+        label: Label,
         news: F,
     )
-        requires callable { F.IsAlwaysCallable news }
-        requires least { 16 ≤ label }
-        requires most { label < 80 }
+        requires { F.IsAlwaysCallable news }
         ensures { (S : Shape) (c : ℕ → ℕ) → Wired wiring.now S → Follows (F.post news) c
             → stages_of self.new ≡ on_lines_into S router label c (stages_of self.old) }
     {
         for line in 0..wiring.lines {
-            if wiring.leads_into(line, router) {
-                self.put(line, label, news(self.get(line, label)));
+            if wiring.leads_into(line, router.number()) {
+                let stage = news(self.get(line, label.number()));
+                self.put(Line::new(line).unwrap(), label, stage);
             }
         }
     }

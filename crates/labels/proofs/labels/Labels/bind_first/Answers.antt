@@ -30,7 +30,7 @@ returns-in-Some c =
       bound = λ S t w.
           ap₂ (λ st sg. with_labels st sg t)
           (statuses_put s.pool q r g.label (Bound f) is)
-          (c.tell.ensures S (λ _. mapping_due) w (λ x y r. search rules) ∙ ap (λ l. on_lines_into S r l (λ _. mapping_due) (stages_of s.stages)) c.label-label.ensures.is)
+          (c.tell.ensures S (λ _. mapping_due) w (λ x y r. search rules) ∙ ap (λ l. on_lines_into S r l (λ _. mapping_due) (stages_of s.stages)) c.label-label.ensures)
           ∙ ap (λ o. grant S r f None o (labelled s t)) (sym took.1 ∙ open_is_free s.pool r s.settled);
       kept = refl;
     }

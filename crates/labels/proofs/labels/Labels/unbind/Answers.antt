@@ -18,7 +18,7 @@ returns c =
     let x = Leaving c.args.fec in
     record {
       unbound = λ S t w. c.tidy.ensures.tidied S t w
-          ∙ ap₂ (λ st sg. tidy S r l (with_labels st sg t))
-          (statuses_put s.pool c.leave.new.self r l x c.leave.ensures) (c.tell.ensures S fall w (λ x y r. search rules));
+          ∙ ap₂ (λ k s. tidy S k l s) c.number.ensures.same (ap₂ (λ st sg. with_labels st sg t)
+          (statuses_put s.pool c.leave.new.self r l x c.leave.ensures) (c.tell.ensures S fall w (λ x y r. search rules)));
       kept = c.tidy.ensures.kept;
     }

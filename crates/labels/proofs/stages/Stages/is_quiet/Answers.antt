@@ -5,7 +5,7 @@ use borrow.Author.Tests.{tests}
 use Rattle.model.specs.Tables.{untold}
 use Rattle.labels.specs.Stagings.{stages_of}
 use Rattle.labels.specs.Wirings.{leads_into}
-use Rattle.labels.proofs.Ranges.{any_first}
+use Rattle.labels.proofs.Firsts.{any_first}
 use Rattle.labels.proofs.stages.Stages.is_quiet.Goals as goal
 
 pub returns : goal.returns
