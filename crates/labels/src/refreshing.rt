@@ -58,34 +58,10 @@ impl Labels {
             → labelled self.new t ≡ refresh independent S router fec (labelled self.old t) }
         ensures kept { self.new.wiring ≡ self.old.wiring }
     {
-        let bound = self.bound_label(router.number(), fec);
-        if may {
-            self.keep(router, fec, bound);
-        } else {
-            self.let_go(router, fec, bound);
-        }
-    }
-
-    // A FEC that a router may bind gets a label, unless one is bound.
-    fn keep(&mut self, router: Router, fec: u32, bound: Option<Label>)
-        ensures granted { (S : Shape) (t : Tables) → Wired self.old.wiring S
-            → labelled self.new t
-            ≡ grant S router fec bound (free_label router (labelled self.old t)) (labelled self.old t) }
-        ensures kept { self.new.wiring ≡ self.old.wiring }
-    {
-        if bound.is_none() {
-            self.bind_first(router, fec);
-        }
-    }
-
-    // A FEC that a router may not bind loses the label that is bound.
-    fn let_go(&mut self, router: Router, fec: u32, bound: Option<Label>)
-        ensures gone { (S : Shape) (t : Tables) → Wired self.old.wiring S
-            → labelled self.new t ≡ let_go S router fec bound (labelled self.old t) }
-        ensures kept { self.new.wiring ≡ self.old.wiring }
-    {
-        if let Some(label) = bound {
-            self.unbind(router, fec, label);
+        match (may, self.bound_label(router.number(), fec)) {
+            (true, None) => self.bind_first(router, fec),
+            (false, Some(label)) => self.unbind(router, fec, label),
+            _ => {}
         }
     }
 
