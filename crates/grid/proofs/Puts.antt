@@ -1,5 +1,5 @@
 -- A table changed at one place. Assumes nothing.
-use Rattle.std.proofs.Common.{◌≡◌, ℕ, eqb, ◌⊎◌, sym, ap, ◌∙◌, inl, inr}
+use Rattle.std.proofs.Common.{◌≡◌, ℕ, eqb, ◌⊎◌, sym, ap, ◌∙◌, inl, inr, subst}
 use Rattle.std.proofs.lemmas.Bool.{cases_eq, cond-true, cond-false, eq-eqb, ne_eqb}
 use Rattle.model.specs.Tables.{put, put2}
 
@@ -42,3 +42,15 @@ put2_through {X} {Y} h g i k x = λ j a b. at a b j where
     | inl s ↦ ap h (put2_here g i k x a b s.0 s.1) ∙ sym (put2_here (λ c d. h (g c d)) i k (h x) a b s.0 s.1)
     | inr d ↦ ap h (put2_there g i k x a b d) ∙ sym (put2_there (λ c d. h (g c d)) i k (h x) a b d)
   ]
+
+-- what every place of a table passes, it passes still once one place is changed to what passes
+pub all_put2 : {X : Type 0} (P : X → Type 0) (g h : ℕ → ℕ → X) (i k : ℕ) (x : X) → h ≡ put2 g i k x → ((a b : ℕ) → P (g a b)) → P x
+    → (a b : ℕ) → P (h a b)
+all_put2 P g h i k x e all one a b = elim (places i k a b) [
+  | inl s ↦ subst P (sym (ap (λ z. z a b) e ∙ put2_here g i k x a b s.0 s.1)) one
+  | inr d ↦ subst P (sym (ap (λ z. z a b) e ∙ put2_there g i k x a b d)) (all a b)
+]
+
+-- the same of a table that has one value everywhere
+pub all_filled : {X : Type 0} (P : X → Type 0) (h : ℕ → ℕ → X) (x : X) → h ≡ (λ _ _. x) → P x → (a b : ℕ) → P (h a b)
+all_filled P h x e one a b = subst P (sym (ap (λ z. z a b) e)) one
