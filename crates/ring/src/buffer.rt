@@ -60,6 +60,15 @@ impl Ring {
         self.rows[line] = row.extend();
     }
 
+    // The oldest frame of a line.
+    fn oldest(&self, line: usize) -> Frame
+        requires line { line < self.now.lines }
+        requires some { 0 < length (lists_of self.now line) }
+        ensures { frame_value result ≡ slice_index_or (lists_of self.now line) 0 no_frame }
+    {
+        self.frame_at(line, 0)
+    }
+
     // Takes the oldest frame of the line of a port out, if one waits there.
     pub(crate) fn take(&mut self, port: usize) -> Option<Frame>
         ensures taken { Taken (value_of self.old) port result (value_of self.new) }
@@ -70,7 +79,7 @@ impl Ring {
         if row.len == 0 {
             return None;
         }
-        let frame = self.frame_at(port, 0);
+        let frame = self.oldest(port);
         self.rows[port] = row.advance();
         Some(frame)
     }

@@ -7,7 +7,7 @@ pub invariant_of-self : goal.invariant_of-self
 invariant_of-self c =
     let s = c.args.self.now in
     let done = take_done s.rows s.lines (vec_items s.places) c.args.port s.sound c.in_ok-row.row c.in_ok-row.ensures.row (omega (arith, c.if-row-eq0.false))
-    (frame_value c.frame_at-frame.result) c.frame_at-frame.ensures c.advance.result c.advance.ensures in
+    (frame_value c.oldest-frame.result) c.oldest-frame.ensures c.advance.result c.advance.ensures in
     record { sound = done.sound }
 
 pub returns : goal.returns
@@ -15,5 +15,5 @@ returns c =
     let s = c.args.self.now in
     let here = told_row s.rows s.lines (vec_items s.places) c.args.port c.in_ok-row.row c.in_ok-row.ensures.row in
     let done = take_done s.rows s.lines (vec_items s.places) c.args.port s.sound c.in_ok-row.row c.in_ok-row.ensures.row (omega (arith, c.if-row-eq0.false))
-    (frame_value c.frame_at-frame.result) c.frame_at-frame.ensures c.advance.result c.advance.ensures in
+    (frame_value c.oldest-frame.result) c.oldest-frame.ensures c.advance.result c.advance.ensures in
     record { taken = ((here.0, omega (arith, c.in_ok-row.ensures.len, c.if-row-eq0.false)), done.hands); turn = done.turn; future = done.future }
