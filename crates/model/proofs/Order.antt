@@ -1,21 +1,15 @@
 -- Frames leave a line in the order they came, and each non-idle poll is paid for by a span: from what a plant answers alone. Assumes
 -- nothing.
-use Rattle.std.proofs.Common.{◌≡◌, ℕ, ◌+◌, Bool, ◌&&◌, eqb, List, [], ◌∷◌, ◌++◌, Some, None, Ok, Err, Option, Result, sym, refl, ap, ◌∙◌, subst, inl, inr, append_assoc, append-nil, arith}
+use Rattle.std.proofs.Common.{◌≡◌, ℕ, ◌+◌, List, [], ◌∷◌, ◌++◌, Some, None, Ok, Err, Option, Result, sym, refl, ap, ◌∙◌, subst, inl, inr, append-nil, arith}
 use Rattle.std.proofs.lemmas.Bool.{cases_eq}
 use Rattle.std.proofs.lemmas.Bool.Decides.{nat_tests}
 use Rattle.std.proofs.lemmas.Grind.{common_steps}
-use Rattle.frame.specs.declared.kind.Kind.{Kind}
-use Rattle.frame.specs.declared.kind.Kind.TheVariants.{Data, Mapping, Withdraw, Release}
-use Rattle.frame.specs.declared.entry.Entry.{Entry}
 use Rattle.frame.specs.declared.refusal.Refusal.{Refusal}
 use Rattle.frame.specs.Frames.{FrameValue}
 use Rattle.plant.specs.Plants.{Shape, PlantValue}
 use Rattle.plant.specs.Answers.{Sends, Joins}
 use Rattle.plant.specs.Futures.{Turn, idle, moved, handed}
-use Rattle.model.specs.declared.met.Met.TheVariants.{Stray}
-use Rattle.model.specs.Messages.{Due, next_message}
-use Rattle.model.specs.Packets.{at, is_waiting}
-use Rattle.model.specs.Calls.{Plan, State, Call, own, route, inject, tell, poll, refused, polled, Effect, only, unless, refusal, tell_next, in_range, is_this, else_stray, arriving, act, effect}
+use Rattle.model.specs.Calls.{Plan, State, Call, refused, Effect, only, unless, effect}
 use Rattle.model.specs.History.{Event, History, Turns, port_of, Serves, given_by, accepted, Sending, Step, with_plant, sent_on, given_of, polls, spans, on_line, span_of, non_idle}
 
 pub unless_both : {A : Type 0} (o : Option ℕ) (s : State A) (k : Effect A) (Q : Effect A → Type 0)
