@@ -1,19 +1,15 @@
 -- Frames leave a line in the order they came, and each non-idle poll is paid for by a span: from what a plant answers alone. Assumes
 -- nothing.
-use Rattle.std.proofs.Common.{◌≡◌, ℕ, ◌+◌, Bool, ◌&&◌, eqb, List, [], ◌∷◌, ◌++◌, Some, None, Ok, Err, Option, Result, sym, refl, ap, ◌∙◌, subst, inl, inr, append_assoc, append-nil, arith}
-use Rattle.std.proofs.lemmas.Bool.{cases_eq, cond-true, cond-false, cond_both, eq-eqb, ne_eqb}
-use Rattle.frame.specs.declared.kind.Kind.{Kind}
-use Rattle.frame.specs.declared.kind.Kind.TheVariants.{Data, Mapping, Withdraw, Release}
-use Rattle.frame.specs.declared.entry.Entry.{Entry}
+use Rattle.std.proofs.Common.{◌≡◌, ℕ, ◌+◌, List, [], ◌∷◌, ◌++◌, Some, None, Ok, Err, Option, Result, sym, refl, ap, ◌∙◌, subst, inl, inr, append-nil, arith}
+use Rattle.std.proofs.lemmas.Bool.{cases_eq}
+use Rattle.std.proofs.lemmas.Bool.Decides.{nat_tests}
+use Rattle.std.proofs.lemmas.Grind.{common_steps}
 use Rattle.frame.specs.declared.refusal.Refusal.{Refusal}
 use Rattle.frame.specs.Frames.{FrameValue}
 use Rattle.plant.specs.Plants.{Shape, PlantValue}
 use Rattle.plant.specs.Answers.{Sends, Joins}
 use Rattle.plant.specs.Futures.{Turn, idle, moved, handed}
-use Rattle.model.specs.declared.met.Met.TheVariants.{Stray}
-use Rattle.model.specs.Messages.{Due, next_message}
-use Rattle.model.specs.Packets.{at, is_waiting}
-use Rattle.model.specs.Calls.{Plan, State, Call, own, route, inject, tell, poll, refused, polled, Effect, only, unless, refusal, tell_next, in_range, is_this, else_stray, arriving, act, effect}
+use Rattle.model.specs.Calls.{Plan, State, Call, refused, Effect, only, unless, effect}
 use Rattle.model.specs.History.{Event, History, Turns, port_of, Serves, given_by, accepted, Sending, Step, with_plant, sent_on, given_of, polls, spans, on_line, span_of, non_idle}
 
 pub unless_both : {A : Type 0} (o : Option ℕ) (s : State A) (k : Effect A) (Q : Effect A → Type 0)
@@ -36,10 +32,10 @@ unsent v w sent e n = record {
 
 -- the frame x, if line e is l
 on_this : (l e : ℕ) (x : FrameValue) → e ≡ l → on_line l (Some (e, x)) ≡ x ∷ []
-on_this l e x u = cond-true (eqb e l) (x ∷ []) [] (eq-eqb e l u)
+on_this l e x u = grind (arith, nat_tests)
 
 on_other : (l e : ℕ) (x : FrameValue) → (e ≡ l → ⊥) → on_line l (Some (e, x)) ≡ []
-on_other l e x n = cond-false (eqb e l) (x ∷ []) [] (ne_eqb e l n)
+on_other l e x n = grind (arith, nat_tests)
 
 joined : (v w : PlantValue) (e : ℕ) (x : FrameValue) (sent : Option (ℕ × FrameValue)) → Joins v e x w → sent ≡ Some (e, x) → Accepted v w sent
 joined v w e x sent j s = record {
@@ -87,49 +83,25 @@ turned v w p (handed e x) g = let j = g.1 in record {
   hops = j.hops;
 }
 
+-- a plant that is not polled takes no turn
+unpolled : (v w : PlantValue) (o : Option ℕ) (t : Turn) → Serves o v t w → o ≡ None → t ≡ idle
+unpolled v w None t g e = g.0
+unpolled v w (Some p) t g e = cc
+
 served : (v w : PlantValue) (o : Option ℕ) (t : Turn) → Serves o v t w → Gave v w t
 served v w None t g = subst (Gave v w) (sym g.0) (gave_nothing v w g.1)
 served v w (Some p) t g = turned v w p t g
 
 line_order : {X : Type 0} (a b c d e f g x : List X) → a ++ b ≡ c ++ d → d ≡ e ++ f → g ≡ f ++ x → a ++ (b ++ x) ≡ (c ++ e) ++ g
-line_order a b c d e f g x u v w =
-    sym (append_assoc a b x) ∙ ap (λ z. z ++ x) (u ∙ ap (λ z. c ++ z) v ∙ sym (append_assoc c e f)) ∙ append_assoc (c ++ e) f x
-    ∙ ap (λ z. (c ++ e) ++ z) (sym w)
+line_order a b c d e f g x u v w = grind (arith, common_steps)
 
 module _ {A : Type 0} where
   -- a call answers as its turn was paid
   abbrev Pace : ℕ → Effect A → Type 0
   Pace n k = non_idle k.answer ≡ n
 
-  tell_pace : (e : ℕ) (o : Option Due) (s : State A) → Pace 0 (tell_next e o s)
-  tell_pace e None s = refl
-  tell_pace e (Some m) s = refl
-
-  stray_pace : (b : Bool) (e : ℕ) (k : Effect A) (s : State A) → Pace 1 k → Pace 1 (else_stray b e k s)
-  stray_pace b e k s z = cond_both b k (only (polled Stray e) s) (Pace 1) (λ _. z) (λ _. refl)
-
-  module _ (P : Plan A) (S : Shape) where
-    arrive_pace : (x : Kind) (e : ℕ) (st : List Entry) (a b : ℕ) (s : State A) → Pace 1 (arriving P S x e st a b s)
-    arrive_pace Mapping e st f l s = stray_pace (in_range P f l) e _ s refl
-    arrive_pace Withdraw e st f l s = stray_pace (in_range P f l && is_this _ l) e _ s refl
-    arrive_pace Release e st f l s = stray_pace (in_range P f l && eqb _ 4) e _ s refl
-    arrive_pace Data e st p b s = stray_pace (is_waiting (at s.book p)) e _ s refl
-
-    poll_pace : (p : ℕ) (t : Turn) (s : State A) → Pace (pace t) (effect P S (poll p) t s)
-    poll_pace p idle s = refl
-    poll_pace p moved s = refl
-    poll_pace p (handed e x) s = arrive_pace x.kind e x.stack x.a x.b s
-
-    -- a call that does not poll
-    plain_pace : (c : Call A) (t : Turn) (s : State A) → Pace 0 (act P S c t s) → t ≡ idle → Pace (pace t) (effect P S c t s)
-    plain_pace c t s z e = unless_both (refusal P S c s) s (act P S c t s) (Pace 0) (λ _ _. refl) (λ _. z) ∙ sym (ap pace e)
-
-    call_pace : (c : Call A) (t : Turn) (s : State A) (v w : PlantValue) → Serves (port_of c) v t w → Pace (pace t) (effect P S c t s)
-    call_pace (own r f b) t s v w g = plain_pace (own r f b) t s refl g.0
-    call_pace (route r f h) t s v w g = plain_pace (route r f h) t s refl g.0
-    call_pace (inject r a ttl) t s v w g = plain_pace (inject r a ttl) t s refl g.0
-    call_pace (tell e) t s v w g = plain_pace (tell e) t s (tell_pace e (next_message S e s.tables) s) g.0
-    call_pace (poll p) t s v w g = poll_pace p t s
+  call_pace : (P : Plan A) (S : Shape) (c : Call A) (t : Turn) (s : State A) → (port_of c ≡ None → t ≡ idle) → Pace (pace t) (effect P S c t s)
+  call_pace P S c t s e = grind arith
 
   -- since the start, on the plant v: the same lines, every frame in its order, and every hop paid for
   pub record Ordered (v : PlantValue) (h : History A) (s : State A) : Type 0 where
@@ -153,7 +125,7 @@ module _ {A : Type 0} where
       let a = sending w s'.plant k.send event.sent t.takes.plant in
       let g = served s.plant w (port_of event.call) t.turn t.served in
       let n : non_idle event.answer ≡ pace t.turn
-      = ap non_idle t.takes.answered ∙ call_pace P S event.call t.turn (with_plant w s) s.plant w t.served in
+      = ap non_idle t.takes.answered ∙ call_pace P S event.call t.turn (with_plant w s) (unpolled s.plant w (port_of event.call) t.turn t.served) in
       let sh : w.shape ≡ v.shape = g.shape ∙ o.shape in
       record {
         shape = a.shape ∙ sh;

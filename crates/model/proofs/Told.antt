@@ -1,6 +1,6 @@
 -- The book and the history of a run tell the same. Assumes nothing.
 use Rattle.std.proofs.Common.{◌≡◌, ℕ, ◌≤◌, true, false, eqb, ◌⊎◌, List, [], ◌∷◌, ◌++◌, map, length, Some, None, Option, sym, refl, ap, ◌∙◌, subst, inl, inr, append-nil, arith}
-use Rattle.std.proofs.lemmas.Bool.{cases_eq, cond-true, cond-false, eq-eqb, ne_eqb, both_ways}
+use Rattle.std.proofs.lemmas.Bool.{cases_eq, cond-true, cond-false, eq-eqb, ne_eqb}
 use Rattle.std.proofs.lemmas.Option.{slice_get_past}
 use Rattle.model.specs.declared.fate.Fate.TheVariants.{Waiting}
 use Rattle.model.specs.Packets.{Record, End, at, close, settle, is_fate}
@@ -17,15 +17,11 @@ module _ {A : Type 0} where
   Closed x (d ∷ d' ∷ ds) = ⊥
 
   pub closed_shows : (x : Record A) (es : List End) → Closed x es → Shows x es × (length es ≤ 1)
-  closed_shows x [] c = (c, omega arith)
-  closed_shows x (d ∷ []) c = (c.0, omega arith)
-  closed_shows x (d ∷ d' ∷ ds) c = absurd c
+  closed_shows x es c = grind arith
 
   -- a packet that waits has not ended
   unended : (x : Record A) (es : List End) → is_fate Waiting x.fate ≡ true → Closed x es → es ≡ []
-  unended x [] w c = refl
-  unended x (d ∷ []) w c = absurd (both_ways (is_fate Waiting d.fate) c.1 (sym (ap (is_fate Waiting) c.0.0) ∙ w))
-  unended x (d ∷ d' ∷ ds) w c = absurd c
+  unended x es w c = grind arith
 
   brings : (call : Call A) → (entry_of call ≡ []) ⊎ ((z : Incoming A) × (entry_of call ≡ z ∷ []))
   brings (own r f b) = inl refl
@@ -59,18 +55,15 @@ module _ {A : Type 0} where
       -- one came in, or none
       pub tells_entered : (ys : List (Incoming A)) → (ys ≡ []) ⊎ ((z : Incoming A) × (ys ≡ z ∷ [])) → length T ≡ length b
           → (p : ℕ) → Tells p (at (b ++ newcomers (length b) ys) p) (T ++ ys) (es p)
-      tells_entered ys (inl e) len p =
-          subst (λ z. Tells p (at (b ++ newcomers (length b) z) p) (T ++ z) (es p)) (sym e)
-          (subst (λ z. Tells p (at z p) (T ++ []) (es p)) (sym (append-nil b)) (subst (λ z. Tells p (at b p) z (es p)) (sym (append-nil T)) (t p)))
+      tells_entered ys (inl e) len p = rw e (rw (append-nil b, append-nil T) (t p))
       tells_entered ys (inr (y, e)) len p =
           let x : Record A = record_of P (length b) y.ingress y.address y.ttl in
-          subst (λ z. Tells p (at (b ++ newcomers (length b) z) p) (T ++ z) (es p)) (sym e) (elim (cases_eq p (length b)) [
+          rw e (elim (cases_eq p (length b)) [
             | inl u ↦
-                let none : es p ≡ [] = subst (λ z. Tells p z T (es p)) (slice_get_past b p (omega arith)) (t p) in
+                let none : es p ≡ [] = rw (slice_get_past b p (omega arith)) at (t p) in
                 subst (λ z. Tells p z (T ++ y ∷ []) (es p)) (sym (ap (at (b ++ x ∷ [])) u ∙ at_last b x))
-                (sym u, ap (at (T ++ y ∷ [])) (u ∙ sym len) ∙ at_last T y, refl, subst (Closed x) (sym none) (refl, refl, refl))
-            | inr n ↦ subst (λ z. Tells p z (T ++ y ∷ []) (es p)) (sym (at_other b x p n))
-                (tells_more p (at b p) T (T ++ y ∷ []) (es p) (at_other T y p (λ u. n (u ∙ len))) (t p))
+                (sym u, ap (at (T ++ y ∷ [])) (u ∙ sym len) ∙ at_last T y, refl, rw none (refl, refl, refl))
+            | inr n ↦ rw (at_other b x p n) (tells_more p (at b p) T (T ++ y ∷ []) (es p) (at_other T y p (λ u. n (u ∙ len))) (t p))
           ])
 
       -- one that waited ended
@@ -83,9 +76,8 @@ module _ {A : Type 0} where
             let ended : es i ++ end_of i (Some d) ≡ d ∷ []
             = ap (λ z. z ++ end_of i (Some d)) (unended x (es i) wx t₀.3) ∙ cond-true (eqb i i) (d ∷ []) [] (eq-eqb i i refl) in
             subst (λ j. Tells j (at (settle (Some d) b) j) T (es j ++ end_of j (Some d))) u
-            (subst (λ z. Tells i z T (es i ++ end_of i (Some d))) (sym (revise_here (close d) i b x px))
-            (t₀.0, t₀.1, t₀.2, subst (Closed (close d x)) (sym ended) ((refl, refl, refl), wd)))
-        | inr n ↦ subst (λ z. Tells p z T (es p ++ end_of p (Some d))) (sym (revise_other (close d) d.packet b p (λ u. n (sym u))))
+            (rw (revise_here (close d) i b x px) (t₀.0, t₀.1, t₀.2, rw ended ((refl, refl, refl), wd)))
+        | inr n ↦ rw (revise_other (close d) d.packet b p (λ u. n (sym u)))
             (subst (Tells p (at b p) T)
             (sym (ap (λ z. es p ++ z) (cond-false (eqb d.packet p) (d ∷ []) [] (ne_eqb d.packet p n)) ∙ append-nil (es p))) (t p))
       ]
