@@ -1,14 +1,15 @@
 -- The computed rules of a path decide the same rules as facts, and what a tunnel made by them is. Assumes nothing.
-use Rattle.std.proofs.Common.{◌≡◌, ℕ, suc, ◌+◌, ◌-◌, ◌<◌, ◌≤◌, Bool, true, false, cond, not, ◌&&◌, eqb, ltb, ◌≢◌, List, [], Some, None, Option, sym, refl, ap, ◌∙◌, arith}
+use Rattle.std.proofs.Common.{◌≡◌, ℕ, suc, ◌+◌, ◌-◌, ◌<◌, ◌≤◌, Bool, true, false, cond, not, ◌&&◌, eqb, ltb, ◌≢◌, List, [], Some, None, Ok, Err, Option, Result, sym, refl, ap, ◌∙◌, arith}
 use Rattle.std.specs.Option.{option_map}
+use Rattle.std.specs.Prelude.{IfOk}
 use Rattle.std.proofs.lemmas.Bool.{cond-true, cond-false, not_from_true, not_from_false}
 use Rattle.frame.specs.declared.refusal.Refusal.{Refusal}
-use Rattle.frame.specs.Numbers.{told_by}
+use Rattle.frame.specs.Numbers.{refused_by}
 use Rattle.plant.specs.Plants.{PlantValue, Shape, Lawful, partner, total}
 use Rattle.plant.specs.Futures.{Future, Foretold}
 use Rattle.plant.proofs.Decides.{Decides, decides_no, decides_as, decides_le, decides_lt, decides_eq, decides_not, decides_and}
 use Rattle.tunnel.specs.declared.path.Path.{Path}
-use Rattle.tunnel.specs.Tunnels.{hop, spans, forth, back, meaning}
+use Rattle.tunnel.specs.Tunnels.{hop, spans, forth, back, tunnel_value, meaning}
 use Rattle.tunnel.specs.Held.{Links, Exist, Chained, Apart, Wide}
 use Rattle.tunnel.specs.Onward.{open_future, tunnel_future}
 use Rattle.tunnel.specs.Rules.{all_to, in_range, all_exist, leads_through, can_carry, rule_broken, path_over, tunnel_refusal, tunnel_of, unless_void, tunnel_over}
@@ -101,23 +102,23 @@ module _ (p : Path) where
         go true false c d f g h k q = never 6 q
         go false b c d f g h k q = never 7 q
 
--- a tunnel as it is made, by the refusal that it tells
+-- a tunnel as it is made, by what the judging of its path answers
 module _ (v : PlantValue) (lines : List ℕ) (window : ℕ) where
   abbrev made : Path
   made = path_over v.shape lines window
 
-  pub made_value : (e : Option Refusal) → told_by e ≡ tunnel_refusal v lines window → meaning e made v ≡ tunnel_of v lines window
-  made_value None h = ap (λ z. unless_void z (meaning None made v) v) h
-  made_value (Some e) h = ap (λ z. unless_void z (meaning None made v) v) h
+  pub made_value : (r : Result Path Refusal) → IfOk r (λ p. p ≡ made) → refused_by r ≡ tunnel_refusal v lines window → meaning r v ≡ tunnel_of v lines window
+  made_value (Ok p) e h = ap (λ q. tunnel_value q v) e ∙ ap (λ z. unless_void z (tunnel_value made v) v) h
+  made_value (Err x) e h = ap (λ z. unless_void z (tunnel_value made v) v) h
 
-  pub made_future : (o : Option Future) → Foretold o (λ b. (b []).value ≡ v) → (e : Option Refusal) → told_by e ≡ tunnel_refusal v lines window
-      → option_map (tunnel_future e made) o ≡ option_map (tunnel_over lines window) o
-  made_future None f e h = refl
-  made_future (Some b) f e h = go e h ∙ ap (λ y. Some (unless_void (tunnel_refusal y lines window) (open_future (path_over y.shape lines window) b) b)) (sym f)
+  pub made_future : (o : Option Future) → Foretold o (λ b. (b []).value ≡ v) → (r : Result Path Refusal) → IfOk r (λ p. p ≡ made) → refused_by r ≡ tunnel_refusal v lines window
+      → option_map (tunnel_future r) o ≡ option_map (tunnel_over lines window) o
+  made_future None f r e h = refl
+  made_future (Some b) f r e h = go r e h ∙ ap (λ y. Some (unless_void (tunnel_refusal y lines window) (open_future (path_over y.shape lines window) b) b)) (sym f)
     where
-      go : (e : Option Refusal) → told_by e ≡ tunnel_refusal v lines window → Some (tunnel_future e made b) ≡ Some (unless_void (tunnel_refusal v lines window) (open_future made b) b)
-      go None h = ap (λ z. Some (unless_void z (open_future made b) b)) h
-      go (Some x) h = ap (λ z. Some (unless_void z (open_future made b) b)) h
+      go : (r : Result Path Refusal) → IfOk r (λ p. p ≡ made) → refused_by r ≡ tunnel_refusal v lines window → Some (tunnel_future r b) ≡ Some (unless_void (tunnel_refusal v lines window) (open_future made b) b)
+      go (Ok p) e h = ap (λ q. Some (open_future q b)) e ∙ ap (λ z. Some (unless_void z (open_future made b) b)) h
+      go (Err x) e h = ap (λ z. Some (unless_void z (open_future made b) b)) h
 
 -- a path that keeps the rules so far has links and labels that fit
 pub links_of : (p : Path) (v : PlantValue) → Lawful v → p.base ≡ v.shape.kept - p.len → 80 + p.len ≤ v.shape.kept → InRange p → Exist v.shape p → Through v.shape p → Links p

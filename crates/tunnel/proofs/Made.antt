@@ -1,5 +1,5 @@
 -- A tunnel over a plant on which nothing waits keeps the laws. Assumes nothing.
-use Rattle.std.proofs.Common.{◌≡◌, ℕ, ◌+◌, ◌-◌, ◌*◌, ◌/◌, ◌%◌, ◌<◌, ◌≤◌, true, ◌≢◌, ◌⊎◌, List, [], map, length, Some, None, Option, sym, refl, ap, ◌∙◌, subst, inl, inr, ⊎_elim, arith}
+use Rattle.std.proofs.Common.{◌≡◌, ℕ, ◌+◌, ◌-◌, ◌*◌, ◌/◌, ◌%◌, ◌<◌, ◌≤◌, true, ◌≢◌, ◌⊎◌, List, [], map, length, Ok, Err, Result, sym, refl, ap, ◌∙◌, subst, inl, inr, ⊎_elim, arith}
 use Rattle.std.proofs.lemmas.Bool.{cases_eq, cases_lt, cases_Bool, or_cases}
 use Rattle.std.proofs.lemmas.List.{nil_from_length}
 use Rattle.frame.specs.Frames.{FrameValue}
@@ -17,7 +17,8 @@ use Rattle.tunnel.proofs.Rooms.{none_ahead, gather_length}
 use Rattle.tunnel.proofs.Entering.{on_find}
 use Rattle.tunnel.proofs.Judges.{rules_kept, links_of}
 use Rattle.frame.specs.declared.refusal.Refusal.{Refusal}
-use Rattle.frame.specs.Numbers.{told_by}
+use Rattle.std.specs.Prelude.{IfOk}
+use Rattle.frame.specs.Numbers.{refused_by}
 
 module _ (s : Shape) (laws : ShapeLaws s) where
   -- a partner's ends are the line's, turned round
@@ -183,10 +184,10 @@ path_ok p v law n e h =
     }
 
 -- a tunnel that is made is held as it must be
-pub made_kept : (v : PlantValue) → Lawful v → (lines : List ℕ) (window : ℕ) (e : Option Refusal) → told_by e ≡ tunnel_refusal v lines window → Kept e (path_over v.shape lines window) v
-made_kept v law lines window (Some e) h = tt
-made_kept v law lines window None h =
+pub made_kept : (v : PlantValue) → Lawful v → (lines : List ℕ) (window : ℕ) (r : Result Path Refusal) → IfOk r (λ p. p ≡ path_over v.shape lines window) → refused_by r ≡ tunnel_refusal v lines window → Kept r v
+made_kept v law lines window (Err x) e h = tt
+made_kept v law lines window (Ok q) e h =
     let p = path_over v.shape lines window in
     let k = rules_kept p v (sym h) in
     let labels : v.shape.kept ≡ p.base + p.len = let a = k.3.kept in omega arith in
-    made_ok p v law (path_ok p v law refl labels k) k.3.still
+    subst (λ z. TunnelOk z v) (sym e) (made_ok p v law (path_ok p v law refl labels k) k.3.still)

@@ -1,17 +1,23 @@
 -- The two own lines of an open tunnel, and its plain ones, as a question reads them. Assumes nothing.
-use Rattle.std.proofs.Common.{◌≡◌, ℕ, suc, ◌+◌, ◌-◌, ◌%◌, ◌<◌, ◌≤◌, Bool, true, false, cond, not, ltb, List, [], ◌∷◌, ◌++◌, length, get_or, Some, None, Option, sym, refl, ap, ◌∙◌, subst, ap₂, ⊎_elim, arith, length-append}
+use Rattle.std.proofs.Common.{◌≡◌, ℕ, suc, ◌+◌, ◌-◌, ◌%◌, ◌<◌, ◌≤◌, Bool, true, false, cond, not, ltb, List, [], ◌∷◌, ◌++◌, length, get_or, Some, None, Option, Ok, Result, sym, refl, ap, ◌∙◌, subst, ap₂, ⊎_elim, arith, length-append}
 use Rattle.std.proofs.lemmas.List.{get_or_append_left, get_or-append_right}
 use Rattle.std.proofs.lemmas.Bool.{cases_eq, cond-true, cond-false, lt-ltb, le-ltb}
+use lib.ListN.{length-map}
+use mathlib.Core.Bool.{beq}
+use Rattle.std.specs.Option.{IsSome}
+use Rattle.frame.specs.declared.frame.Frame.{Frame}
 use Rattle.frame.specs.declared.refusal.Refusal.{Refusal}
-use Rattle.frame.specs.Frames.{FrameValue}
+use Rattle.frame.specs.Frames.{FrameValue, frame_value}
 use Rattle.plant.specs.Plants.{PlantValue, Shape, Line, Lawful}
-use Rattle.plant.specs.Questions.{no_frame, of_line}
+use Rattle.plant.specs.Questions.{no_frame, of_line, Waiting}
 use Rattle.plant.proofs.Sums.{sum_front}
 use Rattle.tunnel.specs.declared.path.Path.{Path}
-use Rattle.tunnel.specs.Tunnels.{Way, way_of, own, top_is, keep, forth, back, hop_frames, along, gather, spans, tunnel_value, meaning}
-use Rattle.tunnel.specs.Held.{PathOk, TunnelOk, Kept}
+use Rattle.tunnel.specs.declared.path.Hop.{Hop}
+use Rattle.tunnel.specs.Tunnels.{Way, way_of, own, top_is, keep, forth, back, popped, hop_frames, along, gather, spans, tunnel_value, meaning}
+use Rattle.tunnel.specs.Held.{Links, PathOk, TunnelOk}
 use Rattle.tunnel.specs.Onward.{line_of}
-use Rattle.tunnel.specs.Inner.{picks}
+use Rattle.tunnel.specs.Inner.{OnHop, picks}
+use Rattle.tunnel.specs.Paths.{own_here_is}
 use Rattle.tunnel.proofs.Steps.{low}
 use Rattle.tunnel.proofs.Answers.{Side, side_forth, side_back}
 use Rattle.tunnel.proofs.Rooms.{keep_parts, keep_like, gather_length, way_load}
@@ -113,12 +119,62 @@ module _ (f : ℕ → List FrameValue) (n k left : ℕ) (lt : k < n) where
         omega arith,
       )
 
--- a question about a line of a tunnel that is not void
-module _ (e : Option Refusal) (p : Path) (v : PlantValue) (line : ℕ) (live : e ≡ None) (kept : Kept e p v) where
-  pub line_none : p.below + 2 ≤ line → {X : Type 0} (x : X) → None ≡ of_line (meaning e p v).shape line x
-  line_none ge x = subst (λ z. Kept z p v → None ≡ of_line (meaning z p v).shape line x) (sym live)
-      (λ ok. sym (cond-false (ltb line (v.shape.lines + 2)) (Some x) None (le-ltb line (v.shape.lines + 2) (let n = ok.path.below in omega arith)))) kept
+-- a question about a line that exists is answered
+module _ {X : Type 0} (s : Shape) (l : ℕ) (x : X) (o : Option X) (lt : l < s.lines) (told : o ≡ of_line s l x) where
+  told_some : o ≡ Some x
+  told_some = told ∙ cond-true (ltb l s.lines) (Some x) None (lt-ltb l s.lines lt)
 
-  pub line_some : line < p.below + 2 → {X : Type 0} (part : PlantValue → X) (a : X) → a ≡ part (tunnel_value p v) → Some a ≡ of_line (meaning e p v).shape line (part (meaning e p v))
-  line_some lt part a is = subst (λ z. Kept z p v → Some a ≡ of_line (meaning z p v).shape line (part (meaning z p v))) (sym live)
-      (λ ok. ap Some is ∙ sym (cond-true (ltb line (v.shape.lines + 2)) (Some (part (tunnel_value p v))) None (lt-ltb line (v.shape.lines + 2) (let n = ok.path.below in omega arith)))) kept
+  pub is_told : IsSome o
+  is_told = subst IsSome (sym told_some) refl
+
+  pub told_is : (u : X) → o ≡ Some u → u ≡ x
+  told_is u e = let z : Some u ≡ Some x = sym e ∙ told_some in cc
+
+-- so is one about a place where a frame waits
+module _ (v : PlantValue) (l i : ℕ) (o : Option Frame) (told : Waiting v l i o) where
+  pub waits_there : l < v.shape.lines → i < length (v.waiting l) → IsSome o
+  waits_there line lt = go o told
+    where
+      go : (o : Option Frame) → Waiting v l i o → IsSome o
+      go (Some f) h = refl
+      go None h = let le = h line in absurd (omega arith)
+
+  pub waits_is : (f : Frame) → o ≡ Some f → frame_value f ≡ get_or (v.waiting l) i no_frame
+  waits_is f e = (subst (Waiting v l i) e told).2
+
+-- the line of a hop: its plain part, and how many of its frames are the hop's own
+module _ (p : Path) (v : PlantValue) (ok : Links p) (l : ℕ) (h : Hop) (lt : l < v.shape.lines) (on : OnHop p l (Some h)) where
+  pub hop_plain : (tunnel_value p v).waiting l ≡ keep (picks false ((way_of h.back p).label h.index)) (v.waiting ((way_of h.back p).at h.index))
+  hop_plain = plain_list p v l ((way_of h.back p).label h.index) lt (own_here_is p ok l h on) ∙ ap (λ n. keep (picks false ((way_of h.back p).label h.index)) (v.waiting n)) on.1
+
+  pub hop_waits : length ((tunnel_value p v).waiting l) + length (hop_frames v.waiting (way_of h.back p) h.index) ≡ length (v.waiting l)
+  hop_waits =
+      let k = (way_of h.back p).label h.index in
+      let a = plain_waits p v l k lt (own_here_is p ok l h on) in
+      let b : length (hop_frames v.waiting (way_of h.back p) h.index) ≡ length (keep (top_is k) (v.waiting l)) =
+      length-map (keep (top_is k) (v.waiting ((way_of h.back p).at h.index))) popped ∙ ap (λ n. length (keep (top_is k) (v.waiting n))) (sym on.1) in
+      omega arith
+
+-- the test for the frames with a label on top, or the others
+pub picks_is : (own : Bool) (k : ℕ) (f : FrameValue) → picks own k f ≡ beq (top_is k f) own
+picks_is true k f = go (top_is k f)
+  where
+    go : (b : Bool) → b ≡ beq b true
+    go true = refl
+    go false = refl
+picks_is false k f = go (top_is k f)
+  where
+    go : (b : Bool) → not b ≡ beq b false
+    go true = refl
+    go false = refl
+
+-- a question about a line of a tunnel that is open, over what its plant below stands for
+module _ (r : Result Path Refusal) (p : Path) (v u : PlantValue) (line : ℕ) (same : v ≡ u) (live : r ≡ Ok p) where
+  pub line_none : v.shape.lines + 2 ≤ line → {X : Type 0} (x : X) → None ≡ of_line (meaning r u).shape line x
+  line_none ge x = subst (λ z. None ≡ of_line (meaning z u).shape line x) (sym live)
+      (subst (λ w. None ≡ of_line (tunnel_value p w).shape line x) same (sym (cond-false (ltb line (v.shape.lines + 2)) (Some x) None (le-ltb line (v.shape.lines + 2) ge))))
+
+  pub line_some : line < v.shape.lines + 2 → {X : Type 0} (part : PlantValue → X) (a : X) → a ≡ part (tunnel_value p v) → Some a ≡ of_line (meaning r u).shape line (part (meaning r u))
+  line_some lt part a is = subst (λ z. Some a ≡ of_line (meaning z u).shape line (part (meaning z u))) (sym live)
+      (subst (λ w. Some a ≡ of_line (tunnel_value p w).shape line (part (tunnel_value p w))) same
+      (ap Some is ∙ sym (cond-true (ltb line (v.shape.lines + 2)) (Some (part (tunnel_value p v))) None (lt-ltb line (v.shape.lines + 2) lt))))

@@ -69,7 +69,7 @@ mapped_same (Some b) = refl
 -- A poll: what is told of it, where o, m and r are the futures below before it, after the poll below, and at its end.
 
 pub record Told (p : Path) (v w : PlantValue) (o r : Option Future) (q : ℕ) (old : Frame) (t : Turn) : Type 0 where
-  pub relayed : PollsBelow None p v q old t w
+  pub relayed : PollsBelow (Ok p) v q old t w
   pub turn : Foretold (option_map (open_future p) o) (λ b. turn_at b q ≡ t)
   pub future : option_map (open_future p) r ≡ option_map (λ b. after b (polled q)) (option_map (open_future p) o)
 
@@ -101,12 +101,12 @@ tells_sent p o m l f r then = ap (option_map (open_future p)) then ∙ go r o
     go (Ok u) (Some b) = refl
     go (Err x) (Some b) = refl
 
-pub tells_value : (p : Path) (e : Option Refusal) (o : Option Future) (v : PlantValue) → Foretold o (λ b. (b []).value ≡ v) → Foretold (option_map (tunnel_future e p) o) (λ b. (b []).value ≡ meaning e p v)
-tells_value p e None v h = tt
-tells_value p (Some e) (Some b) v h = h
-tells_value p None (Some b) v h = ap (meaning None p) h
+pub tells_value : (r : Result Path Refusal) (o : Option Future) (v : PlantValue) → Foretold o (λ b. (b []).value ≡ v) → Foretold (option_map (tunnel_future r) o) (λ b. (b []).value ≡ meaning r v)
+tells_value r None v h = tt
+tells_value (Err e) (Some b) v h = h
+tells_value (Ok p) (Some b) v h = ap (meaning (Ok p)) h
 
 -- a tunnel is lawful where the plant below is
-pub lawful_of : (e : Option Refusal) (p : Path) (v : PlantValue) → Kept e p v → Lawful v → Lawful (meaning e p v)
-lawful_of (Some e) p v k law = law
-lawful_of None p v k law = k.lawful
+pub lawful_of : (r : Result Path Refusal) (v : PlantValue) → Kept r v → Lawful v → Lawful (meaning r v)
+lawful_of (Err e) v k law = law
+lawful_of (Ok p) v k law = k.lawful

@@ -1,5 +1,5 @@
 -- How a tunnel is held: what is known of its path and of the plant below at every time. Assumes nothing.
-use Rattle.std.specs.Prelude.{◌≡◌, ℕ, suc, ◌+◌, ◌-◌, ◌<◌, ◌≤◌, ◌≢◌, List, [], ◌∷◌, length, Some, None, Option}
+use Rattle.std.specs.Prelude.{◌≡◌, ℕ, suc, ◌+◌, ◌-◌, ◌<◌, ◌≤◌, ◌≢◌, List, [], ◌∷◌, length, Ok, Err, Result}
 use Rattle.frame.specs.declared.refusal.Refusal.{Refusal}
 use Rattle.frame.specs.Frames.{FrameValue}
 use Rattle.plant.specs.Plants.{PlantValue, Shape, Lawful, partner, total}
@@ -70,6 +70,6 @@ pub record TunnelOk (p : Path) (v : PlantValue) : Type 0 where
   pub shallow : Shallow v
 
 -- of a void tunnel nothing need be known
-abbrev pub Kept : Option Refusal → Path → PlantValue → Type 0
-Kept (Some e) p v = Unit {0}
-Kept None p v = TunnelOk p v
+abbrev pub Kept : Result Path Refusal → PlantValue → Type 0
+Kept (Err e) v = Unit {0}
+Kept (Ok p) v = TunnelOk p v

@@ -1,17 +1,17 @@
 -- What only the contracts of inner functions cite; nothing that is public rests on it. Assumes nothing.
-use Rattle.std.specs.Prelude.{◌≡◌, ℕ, ◌+◌, ◌<◌, ◌≤◌, Bool, true, false, not, ◌≢◌, Some, None, Option, Result}
+use Rattle.std.specs.Prelude.{◌≡◌, ℕ, ◌+◌, ◌-◌, ◌<◌, ◌≤◌, Bool, true, false, not, ◌≢◌, Some, None, Option, Result}
 use Rattle.std.specs.Option.{option_map}
 use Rattle.frame.specs.declared.frame.Frame.{Frame}
 use Rattle.frame.specs.declared.refusal.Refusal.{Refusal}
 use Rattle.frame.specs.Frames.{FrameValue, frame_value}
 use Rattle.plant.specs.declared.outcome.Outcome.{Outcome}
 use Rattle.plant.specs.declared.outcome.Outcome.TheVariants.{Idle, Moved, Handed}
-use Rattle.plant.specs.Plants.{PlantValue, Shape, total}
+use Rattle.plant.specs.Plants.{PlantValue, Shape, partner, total}
 use Rattle.plant.specs.Answers.{Joins}
 use Rattle.plant.specs.Futures.{sent, Future, after, after_send}
 use Rattle.tunnel.specs.declared.path.Path.{Path}
 use Rattle.tunnel.specs.declared.path.Hop.{Hop}
-use Rattle.tunnel.specs.Tunnels.{hop, forth, back, way_of, own, crossing, top_is, popped, spans}
+use Rattle.tunnel.specs.Tunnels.{hop, forth, back, way_of, own, top_is, popped, spans}
 use Rattle.tunnel.specs.Held.{Chained, Apart, Open, Wide}
 use Rattle.tunnel.specs.Onward.{line_of, next_line, next_frame}
 
@@ -48,10 +48,15 @@ abbrev pub Found : Path → ℕ → Option ℕ → Type 0
 Found p l (Some i) = (i < p.len) × (hop p i ≡ l)
 Found p l None = (i : ℕ) → i < p.len → hop p i ≢ l
 
--- the own frames of a line are those with a label, if its link is on the path
-abbrev pub Marked : Path → ℕ → Option ℕ → Type 0
-Marked p l (Some k) = (crossing p l ≡ true) × ((f : FrameValue) → own p l f ≡ top_is k f)
-Marked p l None = (crossing p l ≡ false) × ((f : FrameValue) → own p l f ≡ false)
+-- the hop on a line, if there is one
+abbrev pub OnHop : Path → ℕ → Option Hop → Type 0
+OnHop p l (Some h) = (h.index < p.len) × (l ≡ (way_of h.back p).at h.index)
+OnHop p l None = ((i : ℕ) → i < p.len → hop p i ≢ l) × ((i : ℕ) → i < p.len → hop p i ≢ partner l)
+
+-- the hop forth on whose link hop i of a direction is
+abbrev pub link_of : Path → Bool → ℕ → ℕ
+link_of p true i = p.len - 1 - i
+link_of p false i = i
 
 -- the frames with a label on top, or the others
 abbrev pub picks : Bool → ℕ → FrameValue → Bool

@@ -38,10 +38,10 @@ entering p l f =
     cond (nat_lt l p.below) (l, f)
     ((way_of (nat_lt p.below l) p).at 0, labelled ((way_of (nat_lt p.below l) p).label 0) f)
 
--- the same of any tunnel, by its fault
-abbrev pub entering_at : Option Refusal → Path → ℕ → FrameValue → ℕ × FrameValue
-entering_at (Some e) p l f = (l, f)
-entering_at None p l f = entering p l f
+-- the same of any tunnel, by its route
+abbrev pub entering_at : Result Path Refusal → ℕ → FrameValue → ℕ × FrameValue
+entering_at (Err e) l f = (l, f)
+entering_at (Ok p) l f = entering p l f
 
 -- the frame has joined its line below if the send was accepted, else nothing changed there
 abbrev pub Entered : ℕ × FrameValue → PlantValue → Result (Unit {0}) Refusal → PlantValue → Type 0
@@ -107,14 +107,14 @@ relay_of p idle = None
 relay_of p moved = None
 relay_of p (handed l f) = sent_on p f (place_of p l f)
 
--- the same two of any tunnel, by its fault
-abbrev pub turn_over : Option Refusal → Path → Turn → Turn
-turn_over (Some e) p t = t
-turn_over None p t = tunnel_turn p t
+-- the same two of any tunnel, by its route
+abbrev pub turn_over : Result Path Refusal → Turn → Turn
+turn_over (Err e) t = t
+turn_over (Ok p) t = tunnel_turn p t
 
-abbrev pub relay_over : Option Refusal → Path → Turn → Option (ℕ × FrameValue)
-relay_over (Some e) p t = None
-relay_over None p t = relay_of p t
+abbrev pub relay_over : Result Path Refusal → Turn → Option (ℕ × FrameValue)
+relay_over (Err e) t = None
+relay_over (Ok p) t = relay_of p t
 
 -- what was sent on has joined its line below
 abbrev pub Relayed : Option (ℕ × FrameValue) → PlantValue → PlantValue → Type 0
@@ -122,14 +122,14 @@ Relayed None v w = w ≡ v
 Relayed (Some x) v w = Joins v x.0 x.1 w
 
 -- A poll of a tunnel that comes to a turn polls below, from v to middle, and then sends on, to w, what it must.
-pub record PollsBelow (e : Option Refusal) (p : Path) (v : PlantValue) (port : ℕ) (old : Frame) (turn : Turn) (w : PlantValue) : Type 0 where
+pub record PollsBelow (r : Result Path Refusal) (v : PlantValue) (port : ℕ) (old : Frame) (turn : Turn) (w : PlantValue) : Type 0 where
   pub outcome : Outcome
   pub line : ℕ
   pub frame : Frame
   pub middle : PlantValue
   pub below : Polled outcome v port old line frame middle
-  pub told : turn ≡ turn_over e p (turn_is outcome line (frame_value frame))
-  pub relayed : Relayed (relay_over e p (turn_is outcome line (frame_value frame))) middle w
+  pub told : turn ≡ turn_over r (turn_is outcome line (frame_value frame))
+  pub relayed : Relayed (relay_over r (turn_is outcome line (frame_value frame))) middle w
 
 -- The future of a tunnel.
 
@@ -149,6 +149,6 @@ open_future p b [] = record { value = tunnel_value p (b []).value; turn = λ q. 
 open_future p b (c ∷ cs) = open_future p (below_after p b c) cs
 
 -- the future of any tunnel
-abbrev pub tunnel_future : Option Refusal → Path → Future → Future
-tunnel_future (Some e) p b = b
-tunnel_future None p b = open_future p b
+abbrev pub tunnel_future : Result Path Refusal → Future → Future
+tunnel_future (Err e) b = b
+tunnel_future (Ok p) b = open_future p b

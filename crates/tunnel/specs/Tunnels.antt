@@ -3,7 +3,7 @@
 -- A tunnel leads along a path of lines of the plant below. A way is one of its two directions, forth along the path and
 -- back along the partners; its hops are counted from 0 in the direction of travel. An own frame is one that is under way
 -- in the tunnel: below it waits on a hop's line, with that hop's label on top.
-use Rattle.std.specs.Prelude.{ℕ, zero, suc, ◌+◌, ◌-◌, ◌*◌, Bool, true, false, cond, not, ◌||◌, List, [], ◌∷◌, ◌++◌, map, length, Some, None, Option, ◌==◌, nat_lt, slice_index}
+use Rattle.std.specs.Prelude.{ℕ, zero, suc, ◌+◌, ◌-◌, ◌*◌, Bool, true, false, cond, not, ◌||◌, List, [], ◌∷◌, ◌++◌, map, length, Ok, Err, Result, ◌==◌, nat_lt, slice_index}
 use Rattle.frame.specs.declared.entry.Entry.{Entry}
 use Rattle.frame.specs.declared.refusal.Refusal.{Refusal}
 use Rattle.frame.specs.Frames.{FrameValue}
@@ -133,7 +133,8 @@ tunnel_value p v = record {
   hops = v.hops + (ahead v (forth p) + ahead v (back p));
 }
 
--- a tunnel that is void, since a rule is broken, stands for what is below
-abbrev pub meaning : Option Refusal → Path → PlantValue → PlantValue
-meaning (Some e) p v = v
-meaning None p v = tunnel_value p v
+-- what a tunnel stands for, by its route: a path, or, of a void tunnel, the rule that is broken; a void one stands for what
+-- is below
+abbrev pub meaning : Result Path Refusal → PlantValue → PlantValue
+meaning (Err e) v = v
+meaning (Ok p) v = tunnel_value p v

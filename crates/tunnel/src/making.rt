@@ -1,11 +1,13 @@
 // Making a tunnel over a plant.
-ghost use Rattle.std.specs.Prelude.{◌≡◌};
+ghost use Rattle.std.specs.Prelude.{◌≡◌, IfOk, MatchResult, Ok, Err};
 ghost use Rattle.std.specs.Option.{option_map};
-ghost use Rattle.frame.specs.Numbers.{told_by};
+ghost use Rattle.std.specs.Result.{result_err};
+ghost use Rattle.frame.specs.Numbers.{refused_by};
 ghost use Rattle.tunnel.specs.Tunnels.{meaning};
 ghost use Rattle.tunnel.specs.Onward.{tunnel_future};
 ghost use Rattle.tunnel.specs.Rules.{padded, path_over, tunnel_refusal, tunnel_of, tunnel_over};
 
+use crate::open::Open;
 use crate::path::Path;
 use crate::rules::judge;
 use crate::tunnel::Tunnel;
@@ -16,11 +18,11 @@ impl<P: Plant> Tunnel<P> {
     // A tunnel over a plant, along lines of it and with a window: how many frames may be under way in one direction.
     // Where a rule is broken the tunnel is void: it tells which one, adds no line and passes all calls through.
     pub fn new(below: P, path: &[usize], window: usize) -> Tunnel<P>
-        ensures told { told_by result.fault ≡ tunnel_refusal (P.Plant.value below) path.now window }
+        ensures told { refused_by result.route ≡ tunnel_refusal (P.Plant.value below) path.now window }
         ensures below { result.below ≡ below }
-        ensures path { result.path ≡ path_over (P.Plant.value below).shape path.now window }
-        ensures value { meaning result.fault result.path (P.Plant.value result.below) ≡ tunnel_of (P.Plant.value below) path.now window }
-        ensures future { option_map (tunnel_future result.fault result.path) (P.Plant.future result.below) ≡ option_map (tunnel_over path.now window) (P.Plant.future below) }
+        ensures path { IfOk result.route (λ p. p ≡ path_over (P.Plant.value below).shape path.now window) }
+        ensures value { meaning result.route (P.Plant.value result.below) ≡ tunnel_of (P.Plant.value below) path.now window }
+        ensures future { option_map (tunnel_future result.route) (P.Plant.future result.below) ≡ option_map (tunnel_over path.now window) (P.Plant.future below) }
     {
         let base = (below.kept() as usize).saturating_sub(path.len()) as u32;
         let path = Path {
@@ -30,15 +32,15 @@ impl<P: Plant> Tunnel<P> {
             below: below.lines(),
             base,
         };
-        let fault = judge(&below, &path);
-        Tunnel { below, path, fault }
+        let route = judge(&below, path);
+        Tunnel { below, route }
     }
 
     // Why the tunnel is void, if it is.
     pub fn fault(&self) -> Option<Refusal>
-        ensures { result ≡ self.now.fault }
+        ensures { result ≡ result_err self.now.route }
     {
-        self.fault
+        self.route.err()
     }
 
     // The plant below.
@@ -58,4 +60,19 @@ fn first_eight(lines: &[usize]) -> [usize; 8]
         row[i] = lines[i];
     }
     row
+}
+
+impl<P: Plant> Tunnel<P> {
+    // The open tunnel, unless it is void.
+    pub(crate) fn open(&self) -> Result<Open<'_, P>, Refusal>
+        ensures { MatchResult result (λ o. (o.below.now ≡ self.now.below) × (self.now.route ≡ Ok o.path.now)) (λ e. self.now.route ≡ Err e) }
+    {
+        match &self.route {
+            Ok(path) => Ok(Open {
+                below: &self.below,
+                path,
+            }),
+            Err(refusal) => Err(*refusal),
+        }
+    }
 }

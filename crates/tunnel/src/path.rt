@@ -1,13 +1,13 @@
 // The path of a tunnel, and to which of its hops a line or a frame belongs.
-ghost use Rattle.std.specs.Prelude.{◌≡◌, ◌<◌};
+ghost use Rattle.std.specs.Prelude.{◌≡◌, ◌+◌, ◌<◌, ◌≤◌};
 ghost use Rattle.frame.specs.Frames.{frame_value};
-ghost use Rattle.plant.specs.Plants.{partner};
 ghost use Rattle.tunnel.specs.Tunnels.{way_of, crossing};
 ghost use Rattle.tunnel.specs.Held.{Links};
 ghost use Rattle.tunnel.specs.Onward.{line_of};
-ghost use Rattle.tunnel.specs.Inner.{Found, Owned, Marked};
+ghost use Rattle.tunnel.specs.Inner.{Found, OnHop, Owned, link_of};
 
 use frame::Frame;
+use plant::partner_of;
 
 #[derive(Clone, Copy)]
 pub struct Path {
@@ -30,18 +30,10 @@ pub struct Hop {
     pub(crate) index: usize,
 }
 
-// The other line of a link.
-pub(crate) fn other(line: usize) -> usize
-    requires { line < 48 }
-    ensures { result ≡ partner line }
-{
-    if line % 2 == 0 { line + 1 } else { line - 1 }
-}
-
 impl Path {
     // The hop forth that is on a line.
-    pub(crate) fn find(&self, line: usize) -> Option<usize>
-        requires { Links self.now }
+    fn find(&self, line: usize) -> Option<usize>
+        requires { self.now.len ≤ 8 }
         ensures { Found self.now line result }
     {
         for i in 0..self.len {
@@ -52,59 +44,64 @@ impl Path {
         None
     }
 
+    // The hop that is on a line.
+    pub(crate) fn hop_on(&self, line: usize) -> Option<Hop>
+        requires links { Links self.now }
+        ensures { OnHop self.now line result }
+    {
+        if let Some(index) = self.find(line) {
+            return Some(Hop { back: false, index });
+        }
+        let i = self.find(partner_of(line))?;
+        Some(Hop {
+            back: true,
+            index: self.len - 1 - i,
+        })
+    }
+
     // The hop that a frame on a line below belongs to, if it is one of the tunnel's own.
     pub(crate) fn owner(&self, line: usize, frame: &Frame) -> Option<Hop>
         requires links { Links self.now }
-        requires line { line < 48 }
         ensures { Owned self.now line (frame_value frame.now) result }
     {
-        let Some(top) = frame.stack.top() else {
-            return None;
-        };
-        if let Some(i) = self.find(line) {
-            if top.label == self.base + i as u32 {
-                return Some(Hop {
-                    back: false,
-                    index: i,
-                });
-            }
-            return None;
+        let hop = self.hop_on(line)?;
+        let top = frame.stack.top()?;
+        if top.label == self.label(hop) {
+            Some(hop)
+        } else {
+            None
         }
-        if let Some(i) = self.find(other(line)) {
-            if top.label == self.base + i as u32 {
-                return Some(Hop {
-                    back: true,
-                    index: self.len - 1 - i,
-                });
-            }
+    }
+
+    // The hop forth on whose link a hop is.
+    fn link(&self, hop: Hop) -> usize
+        requires { hop.index < self.now.len }
+        ensures { result ≡ link_of self.now hop.back hop.index }
+    {
+        if hop.back {
+            self.len - 1 - hop.index
+        } else {
+            hop.index
         }
-        None
     }
 
     // The line below of a hop.
-    pub(crate) fn at(&self, back: bool, i: usize) -> usize
-        requires links { Links self.now }
-        requires hop { i < self.now.len }
-        ensures { result ≡ (way_of back self.now).at i }
+    pub(crate) fn at(&self, hop: Hop) -> usize
+        requires few { self.now.len ≤ 8 }
+        requires hop { hop.index < self.now.len }
+        ensures { result ≡ (way_of hop.back self.now).at hop.index }
     {
-        if back {
-            other(self.lines[self.len - 1 - i])
-        } else {
-            self.lines[i]
-        }
+        let line = self.lines[self.link(hop)];
+        if hop.back { partner_of(line) } else { line }
     }
 
     // The label of a hop.
-    pub(crate) fn label(&self, back: bool, i: usize) -> u32
-        requires links { Links self.now }
-        requires hop { i < self.now.len }
-        ensures { result ≡ (way_of back self.now).label i }
+    pub(crate) fn label(&self, hop: Hop) -> u32
+        requires small { self.now.base + self.now.len ≤ 1048576 }
+        requires hop { hop.index < self.now.len }
+        ensures { result ≡ (way_of hop.back self.now).label hop.index }
     {
-        if back {
-            self.base + (self.len - 1 - i) as u32
-        } else {
-            self.base + i as u32
-        }
+        self.base + self.link(hop) as u32
     }
 
     // The tunnel's own line of a direction.
@@ -115,27 +112,11 @@ impl Path {
         if back { self.below + 1 } else { self.below }
     }
 
-    // The label of the hop whose link a line is on.
-    pub(crate) fn mark(&self, line: usize) -> Option<u32>
-        requires links { Links self.now }
-        requires line { line < 48 }
-        ensures { Marked self.now line result }
-    {
-        if let Some(i) = self.find(line) {
-            return Some(self.base + i as u32);
-        }
-        match self.find(other(line)) {
-            Some(i) => Some(self.base + i as u32),
-            None => None,
-        }
-    }
-
     // Whether a line's link is on the path.
     pub(crate) fn crosses(&self, line: usize) -> bool
         requires links { Links self.now }
-        requires line { line < 48 }
         ensures { result ≡ crossing self.now line }
     {
-        self.mark(line).is_some()
+        self.hop_on(line).is_some()
     }
 }

@@ -1,5 +1,5 @@
 // Polls of an open tunnel.
-ghost use Rattle.std.specs.Prelude.{◌≡◌, ◌+◌, ◌<◌, ◌≤◌, Some, None};
+ghost use Rattle.std.specs.Prelude.{◌≡◌, ◌+◌, ◌<◌, ◌≤◌, None, Ok};
 ghost use Rattle.std.specs.Option.{option_map};
 ghost use Rattle.frame.specs.Frames.{frame_value};
 ghost use Rattle.plant.specs.Answers.{Joins, Polls, send_refusal};
@@ -24,7 +24,7 @@ pub(crate) fn poll_open<P: Plant>(
     requires opened { TunnelOk path.now (P.value below.old) }
     ensures opened { TunnelOk path.now (P.value below.new) }
     ensures polls { Polls (tunnel_value path.now (P.value below.old)) port place.old result place.new (tunnel_value path.now (P.value below.new)) }
-    ensures relayed { PollsBelow None path.now (P.value below.old) port place.old (turn_of result place.new) (P.value below.new) }
+    ensures relayed { PollsBelow (Ok path.now) (P.value below.old) port place.old (turn_of result place.new) (P.value below.new) }
     ensures turn { Foretold (option_map (open_future path.now) (P.future below.old)) (λ b. turn_at b port ≡ turn_of result place.new) }
     ensures future { option_map (open_future path.now) (P.future below.new) ≡ option_map (λ b. after b (polled port)) (option_map (open_future path.now) (P.future below.old)) }
 {
@@ -77,9 +77,12 @@ fn relay<P: Plant>(below: &mut P, path: &Path, hop: Hop, held: Frame)
     ensures joins { Joins (P.value below.old) (next_line path.now hop) (next_frame path.now hop (frame_value held)) (P.value below.new) }
     ensures future { P.future below.new ≡ option_map (λ b. after b (sent (next_line path.now hop) (next_frame path.now hop (frame_value held)))) (P.future below.old) }
 {
-    let next = path.at(hop.back, hop.index + 1);
-    let onward = relabel(held, path.label(hop.back, hop.index + 1));
-    let _ = below.send(next, onward);
+    let next = Hop {
+        back: hop.back,
+        index: hop.index + 1,
+    };
+    let onward = relabel(held, path.label(next));
+    let _ = below.send(path.at(next), onward);
 }
 
 // A frame with the top entry for its next hop.

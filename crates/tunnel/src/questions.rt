@@ -1,148 +1,149 @@
-// Questions about the lines of an open tunnel: of a path that keeps the rules, over the plant below.
+// Questions about the lines of an open tunnel.
 ghost use Rattle.std.specs.Prelude.{◌≡◌, ◌+◌, ◌<◌, length, slice_index_or};
 ghost use Rattle.frame.specs.Frames.{frame_value};
 ghost use Rattle.plant.specs.Questions.{no_frame};
-ghost use Rattle.tunnel.specs.Tunnels.{keep, top_is, tunnel_value};
-ghost use Rattle.tunnel.specs.Held.{TunnelOk};
+ghost use Rattle.tunnel.specs.Tunnels.{keep, top_is, way_of, hop_frames, tunnel_value};
 ghost use Rattle.tunnel.specs.Inner.{picks};
 
-use crate::known::{cap_of, ends_of, frame_of, span_of, waits_of};
-use crate::path::Path;
-use crate::rules::travelled;
+use crate::open::Open;
+use crate::path::Hop;
 use frame::Frame;
 use plant::Plant;
 
-pub(crate) fn line_ends<P: Plant>(below: &P, path: &Path, line: usize) -> (usize, usize)
-    requires opened { TunnelOk path.now (P.value below.now) }
-    requires line { line < path.now.below + 2 }
-    ensures from { result.0 ≡ ((tunnel_value path.now (P.value below.now)).shape.line line).from }
-    ensures to { result.1 ≡ ((tunnel_value path.now (P.value below.now)).shape.line line).to }
-{
-    if line < path.below {
-        return ends_of(below, line);
-    }
-    let back = line > path.below;
-    let (from, _) = ends_of(below, path.at(back, 0));
-    let (_, to) = ends_of(below, path.at(back, path.len - 1));
-    (from, to)
-}
-
-pub(crate) fn line_cap<P: Plant>(below: &P, path: &Path, line: usize) -> usize
-    requires opened { TunnelOk path.now (P.value below.now) }
-    requires line { line < path.now.below + 2 }
-    ensures { result ≡ ((tunnel_value path.now (P.value below.now)).shape.line line).cap }
-{
-    if line >= path.below {
-        return path.window;
-    }
-    let cap = cap_of(below, line);
-    if path.crosses(line) {
-        cap - path.window
-    } else {
-        cap
-    }
-}
-
-pub(crate) fn line_span<P: Plant>(below: &P, path: &Path, line: usize) -> usize
-    requires opened { TunnelOk path.now (P.value below.now) }
-    requires line { line < path.now.below + 2 }
-    ensures { result ≡ ((tunnel_value path.now (P.value below.now)).shape.line line).span }
-{
-    if line < path.below {
-        return span_of(below, line);
-    }
-    travelled(below, path, line > path.below)
-}
-
-pub(crate) fn line_waits<P: Plant>(below: &P, path: &Path, line: usize) -> usize
-    requires opened { TunnelOk path.now (P.value below.now) }
-    requires line { line < path.now.below + 2 }
-    ensures { result ≡ length ((tunnel_value path.now (P.value below.now)).waiting line) }
-{
-    if line < path.below {
-        return match path.mark(line) {
-            Some(label) => waits_of(below, line) - carried(below, line, label),
-            None => waits_of(below, line),
-        };
-    }
-    let back = line > path.below;
-    let mut sum = 0;
-    for i in 0..path.len {
-        sum += carried(below, path.at(back, i), path.label(back, i));
-    }
-    sum
-}
-
-// The frame at a place of a line's list.
-pub(crate) fn line_frame<P: Plant>(below: &P, path: &Path, line: usize, place: usize) -> Frame
-    requires opened { TunnelOk path.now (P.value below.now) }
-    requires line { line < path.now.below + 2 }
-    requires place { place < length ((tunnel_value path.now (P.value below.now)).waiting line) }
-    ensures { frame_value result ≡ slice_index_or ((tunnel_value path.now (P.value below.now)).waiting line) place no_frame }
-{
-    if line < path.below {
-        return match path.mark(line) {
-            Some(label) => nth(below, line, label, false, place),
-            None => frame_of(below, line, place),
-        };
-    }
-    let back = line > path.below;
-    let mut left = place;
-    for k in 0..path.len {
-        let hop = path.len - 1 - k;
-        let on = path.at(back, hop);
-        let label = path.label(back, hop);
-        let here = carried(below, on, label);
-        if left < here {
-            let mut frame = nth(below, on, label, true, left);
-            let _ = frame.stack.pop();
-            return frame;
+impl<P: Plant> Open<'_, P> {
+    // The routers where a line begins and ends.
+    pub(crate) fn ends(&self, line: usize) -> (usize, usize)
+        requires { line < self.now.path.now.below + 2 }
+        ensures from { result.0 ≡ ((tunnel_value self.now.path.now (P.value self.now.below.now)).shape.line line).from }
+        ensures to { result.1 ≡ ((tunnel_value self.now.path.now (P.value self.now.below.now)).shape.line line).to }
+    {
+        if line < self.path.below {
+            return self.below.ends(line).unwrap();
         }
-        left -= here;
+        let back = line > self.path.below;
+        let first = self.at(Hop { back, index: 0 });
+        let last = self.at(Hop {
+            back,
+            index: self.path.len - 1,
+        });
+        (
+            self.below.ends(first).unwrap().0,
+            self.below.ends(last).unwrap().1,
+        )
     }
-    unreachable()
-}
 
-// How many frames on a line below have a label on top.
-fn carried<P: Plant>(below: &P, line: usize, label: u32) -> usize
-    requires line { line < (P.value below.now).shape.lines }
-    ensures { result ≡ length (keep (top_is label) ((P.value below.now).waiting line)) }
-{
-    let mut n = 0;
-    for i in 0..waits_of(below, line) {
-        if has_top(&frame_of(below, line, i), label) {
-            n += 1;
+    // How many frames may wait on a line.
+    pub(crate) fn cap(&self, line: usize) -> usize
+        requires { line < self.now.path.now.below + 2 }
+        ensures { result ≡ ((tunnel_value self.now.path.now (P.value self.now.below.now)).shape.line line).cap }
+    {
+        if line >= self.path.below {
+            return self.path.window;
+        }
+        let cap = self.below.cap(line).unwrap();
+        if self.path.crosses(line) {
+            cap - self.path.window
+        } else {
+            cap
         }
     }
-    n
-}
 
-// The frame at a place among those on a line below that have a label on top, or among the others.
-fn nth<P: Plant>(below: &P, line: usize, label: u32, own: bool, at: usize) -> Frame
-    requires line { line < (P.value below.now).shape.lines }
-    requires at { at < length (keep (picks own label) ((P.value below.now).waiting line)) }
-    ensures { frame_value result ≡ slice_index_or (keep (picks own label) ((P.value below.now).waiting line)) at no_frame }
-{
-    let mut seen = 0;
-    for i in 0..waits_of(below, line) {
-        let frame = frame_of(below, line, i);
-        if passes(&frame, label, own) {
-            if seen == at {
+    // How many polls a frame takes on its way along a line.
+    pub(crate) fn span(&self, line: usize) -> usize
+        requires { line < self.now.path.now.below + 2 }
+        ensures { result ≡ ((tunnel_value self.now.path.now (P.value self.now.below.now)).shape.line line).span }
+    {
+        if line < self.path.below {
+            return self.below.span(line).unwrap();
+        }
+        self.laid().travelled(line > self.path.below)
+    }
+
+    // How many frames wait on a line.
+    pub(crate) fn waits(&self, line: usize) -> usize
+        requires { line < self.now.path.now.below + 2 }
+        ensures { result ≡ length ((tunnel_value self.now.path.now (P.value self.now.below.now)).waiting line) }
+    {
+        if line < self.path.below {
+            let all = self.below.waits(line).unwrap();
+            return match self.path.hop_on(line) {
+                Some(hop) => all - self.carried(hop),
+                None => all,
+            };
+        }
+        let back = line > self.path.below;
+        let mut sum = 0;
+        for index in 0..self.path.len {
+            sum += self.carried(Hop { back, index });
+        }
+        sum
+    }
+
+    // The frame at a place of a line's list.
+    pub(crate) fn frame(&self, line: usize, place: usize) -> Frame
+        requires line { line < self.now.path.now.below + 2 }
+        requires place { place < length ((tunnel_value self.now.path.now (P.value self.now.below.now)).waiting line) }
+        ensures { frame_value result ≡ slice_index_or ((tunnel_value self.now.path.now (P.value self.now.below.now)).waiting line) place no_frame }
+    {
+        if line < self.path.below {
+            return match self.path.hop_on(line) {
+                Some(hop) => self.nth(hop, false, place),
+                None => self.below.waiting(line, place).unwrap(),
+            };
+        }
+        let back = line > self.path.below;
+        let mut left = place;
+        for k in 0..self.path.len {
+            let hop = Hop {
+                back,
+                index: self.path.len - 1 - k,
+            };
+            let here = self.carried(hop);
+            if left < here {
+                let mut frame = self.nth(hop, true, left);
+                let _ = frame.stack.pop();
                 return frame;
             }
-            seen += 1;
+            left -= here;
         }
+        unreachable()
     }
-    unreachable()
-}
 
-fn passes(frame: &Frame, label: u32, own: bool) -> bool
-    ensures { result ≡ picks own label (frame_value frame.now) }
-{
-    if own {
-        has_top(frame, label)
-    } else {
-        !has_top(frame, label)
+    // How many of the tunnel's own frames wait on a hop.
+    fn carried(&self, hop: Hop) -> usize
+        requires { hop.index < self.now.path.now.len }
+        ensures { result ≡ length (hop_frames (P.value self.now.below.now).waiting (way_of hop.back self.now.path.now) hop.index) }
+    {
+        let line = self.at(hop);
+        let label = self.path.label(hop);
+        let mut n = 0;
+        for i in 0..self.below.waits(line).unwrap() {
+            if has_top(&self.below.waiting(line, i).unwrap(), label) {
+                n += 1;
+            }
+        }
+        n
+    }
+
+    // The frame at a place among those on a hop's line that are the tunnel's own, or among the others.
+    fn nth(&self, hop: Hop, own: bool, at: usize) -> Frame
+        requires hop { hop.index < self.now.path.now.len }
+        requires at { at < length (keep (picks own ((way_of hop.back self.now.path.now).label hop.index)) ((P.value self.now.below.now).waiting ((way_of hop.back self.now.path.now).at hop.index))) }
+        ensures { frame_value result ≡ slice_index_or (keep (picks own ((way_of hop.back self.now.path.now).label hop.index)) ((P.value self.now.below.now).waiting ((way_of hop.back self.now.path.now).at hop.index))) at no_frame }
+    {
+        let line = self.at(hop);
+        let label = self.path.label(hop);
+        let mut seen = 0;
+        for i in 0..self.below.waits(line).unwrap() {
+            let frame = self.below.waiting(line, i).unwrap();
+            if has_top(&frame, label) == own {
+                if seen == at {
+                    return frame;
+                }
+                seen += 1;
+            }
+        }
+        unreachable()
     }
 }
 
@@ -150,8 +151,5 @@ fn passes(frame: &Frame, label: u32, own: bool) -> bool
 fn has_top(frame: &Frame, label: u32) -> bool
     ensures { result ≡ top_is label (frame_value frame.now) }
 {
-    match frame.stack.top() {
-        Some(top) => top.label == label,
-        None => false,
-    }
+    frame.stack.top().is_some_and(|top| top.label == label)
 }

@@ -1,24 +1,43 @@
 // The rules of a path over a plant, each decided.
-ghost use Rattle.std.specs.Prelude.{◌≡◌, ℕ, ◌+◌, ◌-◌, ◌<◌, ◌≤◌, ◌≢◌, ◌⊎◌, MatchBool};
-ghost use Rattle.frame.specs.Numbers.{told_by};
+ghost use Rattle.std.specs.Prelude.{◌≡◌, ℕ, ◌+◌, ◌-◌, ◌<◌, ◌≤◌, ◌≢◌, ◌⊎◌, IfOk, MatchBool};
+ghost use Rattle.frame.specs.Numbers.{refused_by};
 ghost use Rattle.plant.specs.Plants.{partner, total};
-ghost use Rattle.tunnel.specs.Tunnels.{way_of, spans, hop};
-ghost use Rattle.tunnel.specs.Held.{Links, Exist, Chained, Apart, Open, Wide};
+ghost use Rattle.tunnel.specs.Held.{Exist, Chained, Apart, Open as OpenEnded, Wide};
 ghost use Rattle.tunnel.specs.Rules.{rule_broken};
 ghost use Rattle.tunnel.specs.Inner.{InRange, Through, Able};
 
-use crate::known::{cap_of, ends_of, span_of, waits_of};
-use crate::path::{Path, other};
+use crate::laid::Laid;
+use crate::path::Path;
 use frame::Refusal;
-use plant::Plant;
+use plant::{Plant, partner_of};
 
+// A path that keeps the rules, or else the first that it breaks.
+pub(crate) fn judge<P: Plant>(below: &P, path: Path) -> Result<Path, Refusal>
+    requires base { path.base ≡ (P.value below.now).shape.kept - path.len }
+    ensures refused { refused_by result ≡ rule_broken (P.value below.now) path }
+    ensures path { IfOk result (λ p. p ≡ path) }
+{
+    if !in_range(&path) {
+        return Err(Refusal::OutOfRange);
+    }
+    if !exist(below, &path) {
+        return Err(Refusal::NoLine);
+    }
+    let laid = Laid { below, path: &path };
+    if !laid.leads_through() {
+        return Err(Refusal::NoPath);
+    }
+    if !laid.can_carry() {
+        return Err(Refusal::Unfit);
+    }
+    Ok(path)
+}
+
+// Whether there are 1 to 8 hops, and the window is 1 to 31.
 fn in_range(path: &Path) -> bool
     ensures { MatchBool result (InRange path.now) (InRange path.now → ⊥) }
 {
-    if path.len < 1 || path.len > 8 || path.window < 1 || path.window > 31 {
-        return false;
-    }
-    true
+    path.len >= 1 && path.len <= 8 && path.window >= 1 && path.window <= 31
 }
 
 // Whether the path's lines exist.
@@ -34,35 +53,19 @@ fn exist<P: Plant>(below: &P, path: &Path) -> bool
     true
 }
 
-// Whether each line begins where the one before ends.
-fn chained<P: Plant>(below: &P, path: &Path) -> bool
-    requires few { path.now.len ≤ 8 }
-    requires exist { Exist (P.value below.now).shape path.now }
-    ensures { MatchBool result (Chained (P.value below.now).shape path.now) (Chained (P.value below.now).shape path.now → ⊥) }
-{
-    for i in 1..path.len {
-        if ends_of(below, path.lines[i]).0 != ends_of(below, path.lines[i - 1]).1 {
-            return false;
-        }
-    }
-    true
-}
-
 // Whether two lines are of one link.
 fn same_link(one: usize, two: usize) -> bool
-    requires { two < 48 }
     ensures { MatchBool result ((one ≡ two) ⊎ (one ≡ partner two)) ((one ≢ two) × (one ≢ partner two)) }
 {
     if one == two {
         return true;
     }
-    one == other(two)
+    one == partner_of(two)
 }
 
 // Whether no link comes twice.
 fn apart(path: &Path) -> bool
     requires few { path.now.len ≤ 8 }
-    requires short { (i : ℕ) → i < path.now.len → hop path.now i < 48 }
     ensures { MatchBool result (Apart path.now) (Apart path.now → ⊥) }
 {
     for i in 0..path.len {
@@ -75,128 +78,74 @@ fn apart(path: &Path) -> bool
     true
 }
 
-// Whether the path ends elsewhere than it begins.
-fn open_ended<P: Plant>(below: &P, path: &Path) -> bool
-    requires some { 1 ≤ path.now.len }
-    requires few { path.now.len ≤ 8 }
-    requires exist { Exist (P.value below.now).shape path.now }
-    ensures { MatchBool result (Open (P.value below.now).shape path.now) (Open (P.value below.now).shape path.now → ⊥) }
-{
-    if ends_of(below, path.lines[0]).0 == ends_of(below, path.lines[path.len - 1]).1 {
-        return false;
-    }
-    true
-}
-
 // Whether nothing waits.
 fn still<P: Plant>(below: &P) -> bool
     ensures { MatchBool result (total (P.value below.now) ≡ 0) (total (P.value below.now) ≢ 0) }
 {
     for l in 0..below.lines() {
-        if waits_of(below, l) > 0 {
+        if below.waits(l).unwrap() > 0 {
             return false;
         }
     }
     true
 }
 
-// Whether the caps of the path's lines and of their partners exceed the window.
-fn wide<P: Plant>(below: &P, path: &Path) -> bool
-    requires few { path.now.len ≤ 8 }
-    requires exist { Exist (P.value below.now).shape path.now }
-    ensures { MatchBool result (Wide (P.value below.now).shape path.now) (Wide (P.value below.now).shape path.now → ⊥) }
-{
-    for i in 0..path.len {
-        if cap_of(below, path.lines[i]) <= path.window {
-            return false;
+impl<P: Plant> Laid<'_, P> {
+    // Whether the lines lead on from one to the next, over each link at most once, and to another router.
+    fn leads_through(&self) -> bool
+        ensures { MatchBool result (Through (P.value self.now.below.now).shape self.now.path.now) (Through (P.value self.now.below.now).shape self.now.path.now → ⊥) }
+    {
+        self.chained() && apart(self.path) && self.open_ended()
+    }
+
+    // Whether each line begins where the one before ends.
+    fn chained(&self) -> bool
+        ensures { MatchBool result (Chained (P.value self.now.below.now).shape self.now.path.now) (Chained (P.value self.now.below.now).shape self.now.path.now → ⊥) }
+    {
+        for i in 1..self.path.len {
+            if self.below.ends(self.path.lines[i]).unwrap().0
+                != self.below.ends(self.path.lines[i - 1]).unwrap().1
+            {
+                return false;
+            }
         }
-        if cap_of(below, other(path.lines[i])) <= path.window {
-            return false;
+        true
+    }
+
+    // Whether the path ends elsewhere than it begins.
+    fn open_ended(&self) -> bool
+        ensures { MatchBool result (OpenEnded (P.value self.now.below.now).shape self.now.path.now) (OpenEnded (P.value self.now.below.now).shape self.now.path.now → ⊥) }
+    {
+        let (from, _) = self.below.ends(self.path.lines[0]).unwrap();
+        let (_, to) = self.below.ends(self.path.lines[self.path.len - 1]).unwrap();
+        from != to
+    }
+
+    // Whether the plant below can carry a tunnel along the path.
+    fn can_carry(&self) -> bool
+        ensures { MatchBool result (Able (P.value self.now.below.now) self.now.path.now) (Able (P.value self.now.below.now) self.now.path.now → ⊥) }
+    {
+        self.below.lines() <= 46
+            && still(self.below)
+            && self.below.depth() >= 2
+            && self.below.kept() as usize >= 80 + self.path.len
+            && self.wide()
+            && self.travelled(false) <= 2_097_152
+            && self.travelled(true) <= 2_097_152
+    }
+
+    // Whether the caps of the path's lines and of their partners exceed the window.
+    fn wide(&self) -> bool
+        ensures { MatchBool result (Wide (P.value self.now.below.now).shape self.now.path.now) (Wide (P.value self.now.below.now).shape self.now.path.now → ⊥) }
+    {
+        for i in 0..self.path.len {
+            let line = self.path.lines[i];
+            if self.below.cap(line).unwrap() <= self.path.window
+                || self.below.cap(partner_of(line)).unwrap() <= self.path.window
+            {
+                return false;
+            }
         }
+        true
     }
-    true
-}
-
-// The spans of a direction, added up.
-pub(crate) fn travelled<P: Plant>(below: &P, path: &Path, back: bool) -> usize
-    requires links { Links path.now }
-    requires exist { Exist (P.value below.now).shape path.now }
-    ensures { result ≡ spans (P.value below.now).shape (way_of back path.now) }
-{
-    let mut sum = 0;
-    for i in 0..path.len {
-        sum += span_of(below, path.at(back, i));
-    }
-    sum
-}
-
-// Whether the lines lead on from one to the next, over each link at most once, and to another router.
-fn leads_through<P: Plant>(below: &P, path: &Path) -> bool
-    requires some { 1 ≤ path.now.len }
-    requires few { path.now.len ≤ 8 }
-    requires exist { Exist (P.value below.now).shape path.now }
-    ensures { MatchBool result (Through (P.value below.now).shape path.now) (Through (P.value below.now).shape path.now → ⊥) }
-{
-    if !chained(below, path) {
-        return false;
-    }
-    if !apart(path) {
-        return false;
-    }
-    if !open_ended(below, path) {
-        return false;
-    }
-    true
-}
-
-// Whether a plant can carry a tunnel along a path.
-fn can_carry<P: Plant>(below: &P, path: &Path) -> bool
-    requires base { path.now.base ≡ (P.value below.now).shape.kept - path.now.len }
-    requires range { InRange path.now }
-    requires exist { Exist (P.value below.now).shape path.now }
-    requires through { Through (P.value below.now).shape path.now }
-    ensures { MatchBool result (Able (P.value below.now) path.now) (Able (P.value below.now) path.now → ⊥) }
-{
-    if below.lines() > 46 {
-        return false;
-    }
-    if !still(below) {
-        return false;
-    }
-    if below.depth() < 2 {
-        return false;
-    }
-    if (below.kept() as usize) < 80 + path.len {
-        return false;
-    }
-    if !wide(below, path) {
-        return false;
-    }
-    if travelled(below, path, false) > 2_097_152 {
-        return false;
-    }
-    if travelled(below, path, true) > 2_097_152 {
-        return false;
-    }
-    true
-}
-
-// The first rule that a path breaks, if any.
-pub(crate) fn judge<P: Plant>(below: &P, path: &Path) -> Option<Refusal>
-    requires base { path.now.base ≡ (P.value below.now).shape.kept - path.now.len }
-    ensures { told_by result ≡ rule_broken (P.value below.now) path.now }
-{
-    if !in_range(path) {
-        return Some(Refusal::OutOfRange);
-    }
-    if !exist(below, path) {
-        return Some(Refusal::NoLine);
-    }
-    if !leads_through(below, path) {
-        return Some(Refusal::NoPath);
-    }
-    if !can_carry(below, path) {
-        return Some(Refusal::Unfit);
-    }
-    None
 }

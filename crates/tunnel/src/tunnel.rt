@@ -12,7 +12,6 @@ ghost use Rattle.tunnel.specs.Foretells.{tells_value, lawful_of};
 
 use crate::path::Path;
 use crate::polling::poll_open;
-use crate::questions::{line_cap, line_ends, line_frame, line_span, line_waits};
 use crate::sending::send_open;
 use frame::{Frame, Refusal};
 use plant::{Outcome, Plant};
@@ -20,27 +19,25 @@ use plant::{Outcome, Plant};
 #[derive(Drop)]
 pub struct Tunnel<P: Plant> {
     pub(crate) below: P,
-    // where the tunnel leads, unless it is void
-    pub(crate) path: Path,
-    // the rule that was broken, if the tunnel is void
-    pub(crate) fault: Option<Refusal>,
+    // where the tunnel leads, or the rule that was broken: then it is void
+    pub(crate) route: Result<Path, Refusal>,
     // an open tunnel keeps the rules of its path at every time
-    ghost kept: { Kept fault path (P.value below) } by { kept_prop fault path (P.value below) },
+    ghost kept: { Kept route (P.value below) } by { kept_prop route (P.value below) },
 }
 
 impl<P: Plant> Plant for Tunnel<P> {
-    ghost value = { λ t. meaning t.fault t.path (P.Plant.value t.below) };
+    ghost value = { λ t. meaning t.route (P.Plant.value t.below) };
 
-    ghost future = { λ t. option_map (tunnel_future t.fault t.path) (P.Plant.future t.below) };
+    ghost future = { λ t. option_map (tunnel_future t.route) (P.Plant.future t.below) };
 
-    ghost lawful = { λ t. lawful_of t.fault t.path (P.Plant.value t.below) t.kept (P.Plant.lawful t.below) };
+    ghost lawful = { λ t. lawful_of t.route (P.Plant.value t.below) t.kept (P.Plant.lawful t.below) };
 
-    ghost shows = { λ t. tells_value t.path t.fault (P.Plant.future t.below) (P.Plant.value t.below) (P.Plant.shows t.below) };
+    ghost shows = { λ t. tells_value t.route (P.Plant.future t.below) (P.Plant.value t.below) (P.Plant.shows t.below) };
 
     fn lines(&self) -> usize {
-        match self.fault {
-            Some(_) => self.below.lines(),
-            None => self.path.below + 2,
+        match &self.route {
+            Ok(path) => path.below + 2,
+            Err(_) => self.below.lines(),
         }
     }
 
@@ -49,70 +46,59 @@ impl<P: Plant> Plant for Tunnel<P> {
     }
 
     fn kept(&self) -> u32 {
-        match self.fault {
-            Some(_) => self.below.kept(),
-            None => self.path.base,
+        match &self.route {
+            Ok(path) => path.base,
+            Err(_) => self.below.kept(),
         }
     }
 
     fn depth(&self) -> usize {
-        match self.fault {
-            Some(_) => self.below.depth(),
-            None => self.below.depth() - 1,
+        match &self.route {
+            Ok(path) => self.below.depth() - 1,
+            Err(_) => self.below.depth(),
         }
     }
 
     fn ends(&self, line: usize) -> Option<(usize, usize)> {
-        if let Some(_) = self.fault {
-            return self.below.ends(line);
+        match self.open() {
+            Ok(open) if line < open.lines() => Some(open.ends(line)),
+            Ok(_) => None,
+            Err(_) => self.below.ends(line),
         }
-        if line >= self.path.below + 2 {
-            return None;
-        }
-        Some(line_ends(&self.below, &self.path, line))
     }
 
     fn cap(&self, line: usize) -> Option<usize> {
-        if let Some(_) = self.fault {
-            return self.below.cap(line);
+        match self.open() {
+            Ok(open) if line < open.lines() => Some(open.cap(line)),
+            Ok(_) => None,
+            Err(_) => self.below.cap(line),
         }
-        if line >= self.path.below + 2 {
-            return None;
-        }
-        Some(line_cap(&self.below, &self.path, line))
     }
 
     fn span(&self, line: usize) -> Option<usize> {
-        if let Some(_) = self.fault {
-            return self.below.span(line);
+        match self.open() {
+            Ok(open) if line < open.lines() => Some(open.span(line)),
+            Ok(_) => None,
+            Err(_) => self.below.span(line),
         }
-        if line >= self.path.below + 2 {
-            return None;
-        }
-        Some(line_span(&self.below, &self.path, line))
     }
 
     fn waits(&self, line: usize) -> Option<usize> {
-        if let Some(_) = self.fault {
-            return self.below.waits(line);
+        match self.open() {
+            Ok(open) if line < open.lines() => Some(open.waits(line)),
+            Ok(_) => None,
+            Err(_) => self.below.waits(line),
         }
-        if line >= self.path.below + 2 {
-            return None;
-        }
-        Some(line_waits(&self.below, &self.path, line))
     }
 
     fn waiting(&self, line: usize, place: usize) -> Option<Frame> {
-        if let Some(_) = self.fault {
-            return self.below.waiting(line, place);
+        match self.open() {
+            Ok(open) if line < open.lines() && place < open.waits(line) => Some(open.frame(
+                line, place,
+            )),
+            Ok(_) => None,
+            Err(_) => self.below.waiting(line, place),
         }
-        if line >= self.path.below + 2 {
-            return None;
-        }
-        if place >= line_waits(&self.below, &self.path, line) {
-            return None;
-        }
-        Some(line_frame(&self.below, &self.path, line, place))
     }
 
     fn count(&self, port: usize) -> usize {
@@ -121,30 +107,28 @@ impl<P: Plant> Plant for Tunnel<P> {
 
     // Beside what every plant promises: at the plant below, what has joined which line.
     fn send(&mut self, line: usize, frame: Frame) -> Result<(), Refusal>
-        ensures sends { Sends (meaning self.old.fault self.old.path (P.Plant.value self.old.below)) line (frame_value frame) result (meaning self.new.fault self.new.path (P.Plant.value self.new.below)) }
-        ensures future { option_map (tunnel_future self.new.fault self.new.path) (P.Plant.future self.new.below) ≡ option_map (after_send line (frame_value frame) result) (option_map (tunnel_future self.old.fault self.old.path) (P.Plant.future self.old.below)) }
-        ensures entered { Entered (entering_at self.old.fault self.old.path line (frame_value frame)) (P.Plant.value self.old.below) result (P.Plant.value self.new.below) }
-        ensures fault { self.new.fault ≡ self.old.fault }
-        ensures path { self.new.path ≡ self.old.path }
+        ensures sends { Sends (meaning self.old.route (P.Plant.value self.old.below)) line (frame_value frame) result (meaning self.new.route (P.Plant.value self.new.below)) }
+        ensures future { option_map (tunnel_future self.new.route) (P.Plant.future self.new.below) ≡ option_map (after_send line (frame_value frame) result) (option_map (tunnel_future self.old.route) (P.Plant.future self.old.below)) }
+        ensures entered { Entered (entering_at self.old.route line (frame_value frame)) (P.Plant.value self.old.below) result (P.Plant.value self.new.below) }
+        ensures route { self.new.route ≡ self.old.route }
     {
-        match self.fault {
-            Some(_) => self.below.send(line, frame),
-            None => send_open(&mut self.below, &self.path, line, frame),
+        match &self.route {
+            Ok(path) => send_open(&mut self.below, path, line, frame),
+            Err(_) => self.below.send(line, frame),
         }
     }
 
     // Beside what every plant promises: at the plant below, a poll, and what was then sent on there.
     fn poll(&mut self, port: usize, place: &mut Frame) -> (Outcome, usize)
-        ensures polls { Polls (meaning self.old.fault self.old.path (P.Plant.value self.old.below)) port place.old result place.new (meaning self.new.fault self.new.path (P.Plant.value self.new.below)) }
-        ensures turn { Foretold (option_map (tunnel_future self.old.fault self.old.path) (P.Plant.future self.old.below)) (λ b. turn_at b port ≡ turn_of result place.new) }
-        ensures future { option_map (tunnel_future self.new.fault self.new.path) (P.Plant.future self.new.below) ≡ option_map (λ b. after b (polled port)) (option_map (tunnel_future self.old.fault self.old.path) (P.Plant.future self.old.below)) }
-        ensures relayed { PollsBelow self.old.fault self.old.path (P.Plant.value self.old.below) port place.old (turn_of result place.new) (P.Plant.value self.new.below) }
-        ensures fault { self.new.fault ≡ self.old.fault }
-        ensures path { self.new.path ≡ self.old.path }
+        ensures polls { Polls (meaning self.old.route (P.Plant.value self.old.below)) port place.old result place.new (meaning self.new.route (P.Plant.value self.new.below)) }
+        ensures turn { Foretold (option_map (tunnel_future self.old.route) (P.Plant.future self.old.below)) (λ b. turn_at b port ≡ turn_of result place.new) }
+        ensures future { option_map (tunnel_future self.new.route) (P.Plant.future self.new.below) ≡ option_map (λ b. after b (polled port)) (option_map (tunnel_future self.old.route) (P.Plant.future self.old.below)) }
+        ensures relayed { PollsBelow self.old.route (P.Plant.value self.old.below) port place.old (turn_of result place.new) (P.Plant.value self.new.below) }
+        ensures route { self.new.route ≡ self.old.route }
     {
-        match self.fault {
-            Some(_) => self.below.poll(port, place),
-            None => poll_open(&mut self.below, &self.path, port, place),
+        match &self.route {
+            Ok(path) => poll_open(&mut self.below, path, port, place),
+            Err(_) => self.below.poll(port, place),
         }
     }
 }

@@ -1,10 +1,8 @@
-use Rattle.std.proofs.Common.{◌≡◌, ℕ, ◌-◌, List, length, sym, refl, ap, ◌∙◌, subst}
-use Rattle.std.specs.Option.{option_map}
+use Rattle.std.proofs.Common.{◌≡◌, ℕ, ◌-◌, List, length, Result, sym, refl, ap, ◌∙◌, subst}
+use Rattle.std.specs.Prelude.{IfOk}
+use Rattle.frame.specs.declared.refusal.Refusal.{Refusal}
 use Rattle.plant.specs.Plants.{Shape}
 use Rattle.tunnel.specs.declared.path.Path.{Path}
-use Rattle.tunnel.specs.Tunnels.{meaning}
-use Rattle.tunnel.specs.Held.{Kept}
-use Rattle.tunnel.specs.Onward.{tunnel_future}
 use Rattle.tunnel.specs.Rules.{padded, path_over, rule_broken}
 use Rattle.tunnel.proofs.Judges.{made_value, made_future}
 use Rattle.tunnel.proofs.Made.{made_kept}
@@ -20,22 +18,22 @@ invariant_of-result g c =
     let xs = c.args.path.now in
     let w = c.args.window in
     let is = path_made v.shape xs c.first_eight.result w c.lines.result c.saturating_sub-base.result c.kept.result c.first_eight.ensures c.lines.ensures c.kept.ensures c.saturating_sub-base.ensures in
-    let told = c.judge-fault.ensures ∙ ap (rule_broken v) is in
-    record { kept = subst (λ z. Kept c.judge-fault.result z v) (sym is) (made_kept v (g.met.P.Plant.lawful c.args.below) xs w c.judge-fault.result told) }
+    let path = subst (λ (z : Path). IfOk c.judge-route.result (λ p. p ≡ z)) is c.judge-route.ensures.path in
+    record { kept = made_kept v (g.met.P.Plant.lawful c.args.below) xs w c.judge-route.result path (c.judge-route.ensures.refused ∙ ap (rule_broken v) is) }
 
 pub returns : goal.returns
 returns g c =
     let v = g.P.Plant.value c.args.below in
-    let o = g.P.Plant.future c.args.below in
     let xs = c.args.path.now in
     let w = c.args.window in
-    let fault = c.judge-fault.result in
+    let r = c.judge-route.result in
     let is = path_made v.shape xs c.first_eight.result w c.lines.result c.saturating_sub-base.result c.kept.result c.first_eight.ensures c.lines.ensures c.kept.ensures c.saturating_sub-base.ensures in
-    let told = c.judge-fault.ensures ∙ ap (rule_broken v) is in
+    let path = subst (λ (z : Path). IfOk r (λ p. p ≡ z)) is c.judge-route.ensures.path in
+    let told = c.judge-route.ensures.refused ∙ ap (rule_broken v) is in
     record {
       told = told;
       below = refl;
-      path = is;
-      value = ap (λ z. meaning fault z v) is ∙ made_value v xs w fault told;
-      future = ap (λ z. option_map (tunnel_future fault z) o) is ∙ made_future v xs w o (g.met.P.Plant.shows c.args.below) fault told;
+      path = path;
+      value = made_value v xs w r path told;
+      future = made_future v xs w (g.P.Plant.future c.args.below) (g.met.P.Plant.shows c.args.below) r path told;
     }

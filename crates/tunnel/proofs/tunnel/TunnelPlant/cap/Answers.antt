@@ -1,16 +1,19 @@
+use Rattle.std.proofs.Common.{ap, arith}
 use Rattle.plant.specs.Plants.{PlantValue}
 use Rattle.tunnel.specs.Tunnels.{meaning}
 use Rattle.tunnel.proofs.Reading.{line_none, line_some}
 use Rattle.tunnel.proofs.tunnel.TunnelPlant.cap.Goals as goal
 
-pub returns-then-line-self : goal.returns-then-line-self
-returns-then-line-self g c =
+pub returns-in-Ok : goal.returns-in-Ok
+returns-in-Ok g c =
     let t = c.args.self.now in
-    let m = meaning t.fault t.path (g.P.Plant.value t.below) in
-    line_none t.fault t.path (g.P.Plant.value t.below) c.args.line c.in_default.is t.kept c.if-line-self.true (m.shape.line c.args.line).cap
+    let o = c.in-Ok.open in
+    line_some t.route o.path.now (g.P.Plant.value o.below.now) (g.P.Plant.value t.below) c.args.line (ap g.P.Plant.value c.in-Ok.ensures.0) c.in-Ok.ensures.1 (omega arith)
+    (λ (v : PlantValue). (v.shape.line c.args.line).cap) c.cap.result c.cap.ensures
 
-pub returns : goal.returns
-returns g c =
+pub returns-in-Ok-2 : goal.returns-in-Ok-2
+returns-in-Ok-2 g c =
     let t = c.args.self.now in
-    line_some t.fault t.path (g.P.Plant.value t.below) c.args.line c.in_default.is t.kept c.if-line-self.false
-    (λ (v : PlantValue). (v.shape.line c.args.line).cap) c.line_cap.result c.line_cap.ensures
+    let o = c.in-Ok.open in
+    let m = meaning t.route (g.P.Plant.value t.below) in
+    line_none t.route o.path.now (g.P.Plant.value o.below.now) (g.P.Plant.value t.below) c.args.line (ap g.P.Plant.value c.in-Ok.ensures.0) c.in-Ok.ensures.1 (omega arith) (m.shape.line c.args.line).cap

@@ -1,0 +1,16 @@
+use Rattle.std.proofs.Common.{◌≡◌, ℕ, Some, None, Option, sym, ◌∙◌}
+use Rattle.std.specs.Option.{is_some}
+use Rattle.tunnel.specs.declared.path.Path.{Path}
+use Rattle.tunnel.specs.declared.path.Hop.{Hop}
+use Rattle.tunnel.specs.Tunnels.{crossing}
+use Rattle.tunnel.specs.Held.{Links}
+use Rattle.tunnel.specs.Inner.{OnHop}
+use Rattle.tunnel.specs.Paths.{crossing_here, crossing_nowhere}
+use Rattle.tunnel.proofs.path.Path.crosses.Goals as goal
+
+by_hop : (p : Path) → Links p → (l : ℕ) (o : Option Hop) → OnHop p l o → is_some o ≡ crossing p l
+by_hop p ok l (Some h) on = sym (crossing_here p ok l h on)
+by_hop p ok l None off = sym (crossing_nowhere p ok l off)
+
+pub returns : goal.returns
+returns c = c.is_some.ensures ∙ by_hop c.args.self.now c.requires.links c.args.line c.hop_on.result c.hop_on.ensures

@@ -1,0 +1,39 @@
+// A path whose lines exist in the plant below, and the spans along it.
+ghost use Rattle.std.specs.Prelude.{◌≡◌, ◌<◌, ◌≤◌};
+ghost use Rattle.std.proofs.Props.{props};
+ghost use Rattle.tunnel.specs.Tunnels.{way_of, spans};
+ghost use Rattle.tunnel.specs.Held.{Exist};
+
+use crate::path::{Hop, Path};
+use plant::Plant;
+
+#[derive(Drop)]
+pub(crate) struct Laid<'a, P: Plant> {
+    pub(crate) below: &'a P,
+    pub(crate) path: &'a Path,
+    ghost some: { 1 ≤ path.now.len },
+    ghost few: { path.now.len ≤ 8 },
+    ghost exist: { Exist (P.value below.now).shape path.now } by { Prim.hlevel props },
+}
+
+impl<P: Plant> Laid<'_, P> {
+    // The line below of a hop.
+    pub(crate) fn at(&self, hop: Hop) -> usize
+        requires { hop.index < self.now.path.now.len }
+        ensures is { result ≡ (way_of hop.back self.now.path.now).at hop.index }
+        ensures exists { result < (P.value self.now.below.now).shape.lines }
+    {
+        self.path.at(hop)
+    }
+
+    // The spans of a direction, added up.
+    pub(crate) fn travelled(&self, back: bool) -> usize
+        ensures { result ≡ spans (P.value self.now.below.now).shape (way_of back self.now.path.now) }
+    {
+        let mut sum = 0;
+        for index in 0..self.path.len {
+            sum += self.below.span(self.at(Hop { back, index })).unwrap();
+        }
+        sum
+    }
+}
