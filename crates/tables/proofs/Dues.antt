@@ -7,6 +7,8 @@ use Rattle.model.specs.Tables.{Tables, first_label, is_some, the, told, withdraw
 use Rattle.model.specs.Messages.{Due, release_of, news_of, label_at_stage, due_or, next_message}
 use Rattle.model.proofs.Firsts.{never}
 use Rattle.labels.specs.declared.stage.Stage.TheVariants.{MappingDue}
+use Rattle.std.specs.Option.{option_map}
+use Rattle.tables.specs.declared.message.Message.{Message}
 use Rattle.tables.specs.Grids.{with_it, first_due}
 use Rattle.tables.specs.Sending.{message_of, news_on, news_in, or_news, first_news}
 
@@ -36,12 +38,20 @@ module _ (S : Shape) (e : ℕ) (t : Tables) where
   abbrev news : Option Due
   news = due_or (label_at_stage withdraw_due e t) (news_of S e t Withdraw withdrawn) mappings
 
-  pub is_release : (l f : ℕ) → Some (l, f) ≡ first_due (t.due e) → Some (record { kind = Release; fec = f; label = l }) ≡ message_of (next_message S e t)
+  is_release : (l f : ℕ) → Some (l, f) ≡ first_due (t.due e) → Some (record { kind = Release; fec = f; label = l }) ≡ message_of (next_message S e t)
   is_release l f q = at_release (first_label (λ k. is_some (t.due e k))) news l f q
 
-  pub is_news : None ≡ first_due (t.due e) → first_news S e t ≡ message_of (next_message S e t)
+  is_news : None ≡ first_due (t.due e) → first_news S e t ≡ message_of (next_message S e t)
   is_news a = go (label_at_stage withdraw_due e t) ∙ sym (past_release (first_label (λ k. is_some (t.due e k))) news a)
     where
       go : (o : Option ℕ) → or_news (news_on S e t Withdraw o) (news_in S e t Mapping MappingDue) ≡ message_of (due_or o (news_of S e t Withdraw withdrawn) mappings)
       go None = last_news Mapping told (label_at_stage mapping_due e t)
       go (Some l) = refl
+
+  abbrev pub release : ℕ × ℕ → Message
+  release p = record { kind = Release; fec = p.1; label = p.0 }
+
+  -- a due release, else news
+  pub is_next : (o : Option (ℕ × ℕ)) → o ≡ first_due (t.due e) → or_news (option_map release o) (first_news S e t) ≡ message_of (next_message S e t)
+  is_next None a = is_news a
+  is_next (Some p) a = is_release p.0 p.1 a

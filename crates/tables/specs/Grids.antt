@@ -2,17 +2,14 @@
 use Rattle.std.specs.Prelude.{ℕ, Bool, false, List, Some, None, Option}
 use Rattle.model.specs.Tables.{first_label, is_some, the}
 use Rattle.grid.specs.Grids.{grid_at}
+use Rattle.labels.specs.Arrays.{by_label}
 use Rattle.tables.specs.declared.routes.Routes.{Routes}
 use Rattle.tables.specs.declared.remotes.Remotes.{Remotes}
 use Rattle.tables.specs.declared.releases.Releases.{Releases}
 
 -- a grid of n rows with a place for each of 32 FECs; outside it, d
 abbrev pub by_fec : {X : Type 0} → ℕ → X → List X → ℕ → ℕ → X
-by_fec n d xs = grid_at n 0 32 d xs
-
--- a grid of n rows with a place for each of the labels 16 to 79; outside it, d
-abbrev pub by_label : {X : Type 0} → ℕ → X → List X → ℕ → ℕ → X
-by_label n d xs = grid_at n 16 80 d xs
+by_fec n d = grid_at n 0 32 d
 
 -- router, FEC: the owner mark
 abbrev pub owners_of : Routes → ℕ → ℕ → Bool

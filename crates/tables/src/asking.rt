@@ -46,9 +46,8 @@ impl Tables {
         ensures { result ≡ may_bind self.now.independent router fec (tables_of self.now) }
     {
         self.owns(router, fec)
-            || self
-                .next_hop(router, fec)
-                .is_some_and(|line| self.independent || self.remote(line, fec).is_some())
+            || self.next_hop(router, fec).is_some_and(|line| self.independent
+                || self.remote(line, fec).is_some())
     }
 
     // What a router has a label for.

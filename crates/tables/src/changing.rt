@@ -14,7 +14,7 @@ impl Tables {
     {
         let fec = fec.number() as u32;
         let may = self.may_bind(router.number(), fec);
-        self.labels.refresh(may, router.number(), fec);
+        self.labels.refresh(may, router, fec);
     }
 
     fn mark(&mut self, router: Router, fec: FecNumber, on: bool)
@@ -82,6 +82,6 @@ impl Tables {
         requires { line < self.old.labels.wiring.lines }
         ensures { Became self.old (λ i S t. tidy S (S.line line).to label (with_labels t.status (put2 t.stage line label untold) t)) self.new }
     {
-        self.labels.release(line.number(), label.number());
+        self.labels.release(line, label);
     }
 }

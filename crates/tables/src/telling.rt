@@ -30,8 +30,7 @@ impl Tables {
         ensures { (S : Shape) → Wired self.now.labels.wiring S → result ≡ news_in S line (tables_of self.now) kind stage }
     {
         let label = self.labels.first_at(partner_of(line), stage)?;
-        let fec = self.labels.fec_of(self.beginning(line), label);
-        let label = Label::new(label)?;
+        let fec = self.labels.fec_of(self.beginning(line), label.number());
         Some(Message { kind, fec, label })
     }
 
@@ -63,7 +62,8 @@ impl Tables {
     fn told(&mut self, line: Line, label: Label, stage: Stage)
         ensures { Turned self.old (λ t. with_labels t.status (put2 t.stage (partner line) label (stage_number stage)) t) self.new }
     {
-        self.labels.set_stage(partner_of(line.number()), label.number(), stage);
+        let back = Line::new(partner_of(line.number())).unwrap();
+        self.labels.set_stage(back, label, stage);
     }
 
     // A release was sent on a line.
