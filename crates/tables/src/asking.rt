@@ -45,9 +45,8 @@ impl Tables {
     pub fn may_bind(&self, router: usize, fec: u32) -> bool
         ensures { result ≡ may_bind self.now.independent router fec (tables_of self.now) }
     {
-        self.owns(router, fec)
-            || self.next_hop(router, fec).is_some_and(|line| self.independent
-                || self.remote(line, fec).is_some())
+        let over = |line| self.independent || self.remote(line, fec).is_some();
+        self.owns(router, fec) || self.next_hop(router, fec).is_some_and(over)
     }
 
     // What a router has a label for.
