@@ -20,8 +20,8 @@ same₃ F p q r = λ i. F (p i) (q i) (r i)
 -- the router where a line ends is the plant's
 pub same_end : (n : Routers) (v : PlantValue) → Fits n v → (e r : ℕ) → e < (wiring_of n).lines → end_of (wiring_of n) e ≡ Some r → r ≡ (v.shape.line e).to
 same_end n v fits e r lt q =
-    let lines = fits.wired.lines in
-    let to = fits.wired.to e (omega arith) in
+    let lines = fits.lines in
+    let to = fits.to e (omega arith) in
     cc (q, to)
 
 module _ (n : Routers) (v : PlantValue) (e : ℕ) (b : Bool) where

@@ -9,7 +9,7 @@ ghost use Rattle.book.specs.Books.{book_of};
 ghost use Rattle.model.specs.Calls.{in_range, is_this, arriving, polled};
 ghost use Rattle.labels.specs.Wirings.{end_of};
 ghost use Rattle.tables.specs.Reading.{tables_of};
-ghost use Rattle.network.specs.Networks.{plan_of, state_of, wiring_of, Steady, Fits};
+ghost use Rattle.network.specs.Networks.{plan_of, state_of, wiring_of, Fits};
 ghost use Rattle.network.specs.Dealing.{Took};
 
 use crate::routers::Routers;
@@ -34,21 +34,16 @@ impl Routers {
 
     // The router where a line ends.
     pub(crate) fn end_of(&self, line: usize) -> usize
-        requires steady { Steady self.now }
         requires runs { self.now.still ≡ false }
         requires line { line < (wiring_of self.now).lines }
         ensures ends { end_of (wiring_of self.now) line ≡ Some result }
         ensures router { result < 16 }
     {
-        match self.tables.end(line) {
-            Some(router) => router,
-            None => unreachable(),
-        }
+        self.tables.end(line).unwrap()
     }
 
     // A mapping came out of a line.
     pub(crate) fn mapping(&mut self, line: usize, fec: u32, label: u32) -> Met
-        requires steady { Steady self.old }
         requires runs { self.old.still ≡ false }
         requires line { line < (wiring_of self.old).lines }
         ensures { (v : PlantValue) (st : List Entry) → Fits self.old v → Took self.old
@@ -67,18 +62,12 @@ impl Routers {
     fn is_known(&self, line: usize, fec: u32, label: u32) -> bool
         ensures { result ≡ (in_range (plan_of self.now.plan) fec label && is_this ((tables_of self.now.tables).remote (partner line) fec) label) }
     {
-        if !self.in_range(fec, label) {
-            return false;
-        }
-        match self.tables.remote(partner_of(line), fec) {
-            Some(known) => known == label as usize,
-            None => false,
-        }
+        self.in_range(fec, label)
+            && self.tables.remote(partner_of(line), fec) == Some(label as usize)
     }
 
     // A withdraw came out of a line.
     pub(crate) fn withdraw(&mut self, line: usize, fec: u32, label: u32) -> Met
-        requires steady { Steady self.old }
         requires runs { self.old.still ≡ false }
         requires line { line < (wiring_of self.old).lines }
         ensures { (v : PlantValue) (st : List Entry) → Fits self.old v → Took self.old
@@ -97,13 +86,8 @@ impl Routers {
     fn is_awaited(&self, line: usize, fec: u32, label: u32) -> bool
         ensures { result ≡ (in_range (plan_of self.now.plan) fec label && (tables_of self.now.tables).stage line label == withdrawn) }
     {
-        if !self.in_range(fec, label) {
-            return false;
-        }
-        match self.tables.stage(line, label as usize) {
-            Stage::Withdrawn => true,
-            _ => false,
-        }
+        self.in_range(fec, label)
+            && matches!(self.tables.stage(line, label as usize), Stage::Withdrawn)
     }
 
     // A release came out of a line.

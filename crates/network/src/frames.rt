@@ -8,16 +8,6 @@ ghost use Rattle.model.specs.Packets.{data_frame};
 use frame::{Entry, Frame, Kind, Stack};
 use tables::Message;
 
-// A frame for a place that nothing was written to.
-pub(crate) fn no_frame() -> Frame {
-    Frame {
-        kind: Kind::Data,
-        stack: Stack::new(),
-        a: 0,
-        b: 0,
-    }
-}
-
 // The frame of a message.
 pub(crate) fn message_frame(message: Message) -> Frame
     requires { is_label message.label ≡ true }

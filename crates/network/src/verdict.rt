@@ -5,6 +5,5 @@ use model::Cause;
 pub enum Verdict {
     Deliver,
     Drop(Cause),
-    // over a line, with a label
-    Forward(usize, usize),
+    Forward { line: usize, label: usize },
 }
