@@ -1,11 +1,15 @@
-// The book: a table of at most 512 records, with room for all of them.
+// The book: a table of the records, with room for as many as there may be.
 ghost use Rattle.std.specs.Prelude.{◌≤◌, vec_len, vec_capacity};
+ghost use Rattle.book.specs.declared.book.TheConstants.{MOST_PACKETS};
 
 use crate::table::Table;
+
+// How many packets a book may have.
+pub const MOST_PACKETS: usize = 512;
 
 #[derive(Drop)]
 pub struct Book<A> {
     pub(crate) table: Table<A>,
-    ghost few: { vec_len table.records ≤ 512 },
-    ghost room: { 512 ≤ vec_capacity table.records },
+    ghost few: { vec_len table.records ≤ MOST_PACKETS },
+    ghost room: { MOST_PACKETS ≤ vec_capacity table.records },
 }

@@ -2,12 +2,14 @@
 #![tactic(auto)]
 
 pub mod book;
+pub mod end;
 pub mod packet;
 mod reading;
 mod table;
 mod writing;
 
-pub use crate::book::Book;
+pub use crate::book::{Book, MOST_PACKETS};
+pub use crate::end::End;
 pub use crate::packet::Record;
 
 #[cfg(test)]

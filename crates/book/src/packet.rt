@@ -1,12 +1,12 @@
 // The record of a packet.
 ghost use Rattle.std.specs.Prelude.{◌≡◌};
 ghost use Rattle.model.specs.Packets.{is_fate, close};
-ghost use Rattle.model.specs.Promises.{one};
-ghost use Rattle.book.specs.Records.{record_of};
+ghost use Rattle.book.specs.Records.{record_of, end_of};
 
+use crate::end::End;
 use model::{Cause, Fate};
 
-#[derive(Clone, Copy)]
+#[derive(Clone, Copy, PartialEq, Eq, Debug)]
 pub struct Record<A> {
     pub number: usize,
     // the router where it came in
@@ -14,6 +14,8 @@ pub struct Record<A> {
     pub address: A,
     pub ttl: u8,
     pub fec: Option<usize>,
+    // not one field with the end inside: a record may have any fate beside any router and cause, as in the model, and a type
+    // with fewer values would ask more of who appends one
     pub fate: Fate,
     // where and why it ended
     pub router: Option<usize>,
@@ -28,19 +30,12 @@ impl<A: Copy> Record<A> {
         self.fate == fate
     }
 
-    // 1 if the packet has this fate, else 0.
-    pub(crate) fn tally(&self, fate: Fate) -> usize
-        ensures { result ≡ one (is_fate fate self.now.fate) }
-    {
-        if self.has(fate) { 1 } else { 0 }
-    }
-
     // Writes the packet's end into its record.
-    pub(crate) fn finish(&mut self, fate: Fate, router: usize, cause: Option<Cause>)
-        ensures { record_of self.new ≡ close (record { packet = self.old.number; fate = fate; router = router; cause = cause }) (record_of self.old) }
+    pub(crate) fn finish(&mut self, end: End)
+        ensures { record_of self.new ≡ close (end_of end) (record_of self.old) }
     {
-        self.fate = fate;
-        self.router = Some(router);
-        self.cause = cause;
+        self.fate = end.fate;
+        self.router = Some(end.router);
+        self.cause = end.cause;
     }
 }

@@ -5,7 +5,7 @@ ghost use Rattle.model.specs.Promises.{count};
 ghost use Rattle.book.specs.Records.{found_of};
 ghost use Rattle.book.specs.Books.{book_of};
 
-use crate::book::Book;
+use crate::book::{Book, MOST_PACKETS};
 use crate::packet::Record;
 use model::Fate;
 
@@ -17,11 +17,11 @@ impl<A: Copy> Book<A> {
         self.table.len()
     }
 
-    // It never has more than 512 records.
+    // Whether it has as many records as it may. It never has more.
     pub fn is_full(&self) -> bool
-        ensures { result ≡ nat_le 512 (length (book_of self.now)) }
+        ensures { result ≡ nat_le MOST_PACKETS (length (book_of self.now)) }
     {
-        self.len() >= 512
+        self.len() >= MOST_PACKETS
     }
 
     // The record of a packet, if there is such a packet.
@@ -35,20 +35,18 @@ impl<A: Copy> Book<A> {
     pub fn is_waiting(&self, packet: usize) -> bool
         ensures { result ≡ is_waiting (at (book_of self.now) packet) }
     {
-        match self.get(packet) {
-            Some(found) => found.has(Fate::Waiting),
-            None => false,
-        }
+        self.get(packet)
+            .is_some_and(|found| found.has(Fate::Waiting))
     }
 
     // How many packets have a fate.
     pub fn count(&self, fate: Fate) -> usize
         ensures { result ≡ count fate (book_of self.now) }
     {
-        let mut n: usize = 0;
-        for packet in self.table.records.as_slice() {
-            n += packet.tally(fate);
-        }
-        n
+        self.table
+            .records
+            .iter()
+            .filter(|packet| packet.has(fate))
+            .count()
     }
 }

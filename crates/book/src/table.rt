@@ -1,9 +1,10 @@
 // The table of the records: what is at which place.
 ghost use Rattle.std.specs.Prelude.{◌≡◌, ◌<◌, [], ◌∷◌, ◌++◌, length, vec_len, vec_capacity};
+ghost use Rattle.book.specs.Records.{end_of};
 ghost use Rattle.book.specs.Tables.{Found, Ended};
 
+use crate::end::End;
 use crate::packet::Record;
-use model::{Cause, Fate};
 
 #[derive(Drop)]
 pub(crate) struct Table<A> {
@@ -21,11 +22,7 @@ impl<A: Copy> Table<A> {
     pub(crate) fn get(&self, place: usize) -> Option<Record<A>>
         ensures { Found self.now.records.items place result }
     {
-        if place < self.len() {
-            Some(self.records[place])
-        } else {
-            None
-        }
+        self.records.get(place).copied()
     }
 
     // One record more at the end, where there is room for it.
@@ -37,12 +34,12 @@ impl<A: Copy> Table<A> {
         self.records.push_reserved(packet);
     }
 
-    // Writes a packet's end into the record at a place; all else stays.
-    pub(crate) fn end(&mut self, place: usize, fate: Fate, router: usize, cause: Option<Cause>)
-        requires { place < length self.old.records.items }
-        ensures ended { Ended self.old.records.items place (record { packet = place; fate = fate; router = router; cause = cause }) self.new.records.items }
+    // Writes a packet's end into its record; all else stays.
+    pub(crate) fn end(&mut self, end: End)
+        requires { end.packet < length self.old.records.items }
+        ensures ended { Ended self.old.records.items end.packet (end_of end) self.new.records.items }
         ensures room { vec_capacity self.new.records ≡ vec_capacity self.old.records }
     {
-        self.records[place].finish(fate, router, cause);
+        self.records[end.packet].finish(end);
     }
 }

@@ -1,5 +1,6 @@
 // A book is filled, and a packet ends.
 use crate::book::Book;
+use crate::end::End;
 use crate::packet::Record;
 use model::{Cause, Fate};
 use std::test::Fail;
@@ -27,7 +28,12 @@ fn a_full_book(rt: HostRuntime) -> Result<(), Fail> {
         enter(&mut book, number);
     }
     assert_eq!(rt; book.len(), 512);
-    book.end(511, Fate::Dropped, 3, Some(Cause::NoRoom));
+    book.end(End {
+        packet: 511,
+        fate: Fate::Dropped,
+        router: 3,
+        cause: Some(Cause::NoRoom),
+    });
     assert!(rt; book.is_waiting(510) && !book.is_waiting(511) && !book.is_waiting(512));
     assert_eq!(rt; book.count(Fate::Dropped), 1);
     assert_eq!(rt; book.count(Fate::Waiting), 511);

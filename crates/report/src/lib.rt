@@ -1,12 +1,11 @@
 // The rows that a rehearsal gives: faults of the file, packets and totals, and their text.
 #![tactic(auto)]
 
-pub mod making;
+mod making;
 pub mod row;
 pub mod text;
 mod words;
 
-pub use crate::making::packet_row;
 pub use crate::row::Row;
 pub use crate::text::report;
 

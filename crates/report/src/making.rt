@@ -7,15 +7,17 @@ use crate::row::Row;
 use book::Record;
 
 // The row of a packet, from its record.
-pub fn packet_row<A: Copy>(packet: &Record<A>) -> Row
-    ensures { result ≡ packet_row (record_of packet.now) }
-{
-    Row::Packet {
-        number: packet.number,
-        ingress: packet.ingress,
-        fec: packet.fec,
-        fate: packet.fate,
-        router: packet.router,
-        cause: packet.cause,
+impl<A: Copy> From<&Record<A>> for Row {
+    ghost from_gives = { λ packet row. row ≡ packet_row (record_of packet.now) };
+
+    fn from(packet: &Record<A>) -> Row {
+        Row::Packet {
+            number: packet.number,
+            ingress: packet.ingress,
+            fec: packet.fec,
+            fate: packet.fate,
+            router: packet.router,
+            cause: packet.cause,
+        }
     }
 }

@@ -6,7 +6,7 @@ use crate::words::{FateLetter, OrDash, cause_number};
 use model::{Cause, Fate};
 use std::fmt;
 
-#[derive(Clone, Copy)]
+#[derive(Clone, Copy, PartialEq, Eq, Debug)]
 pub enum Row {
     // a line of the file that is bad or was refused, with the number that says why; line 0 is the file as a whole
     Fault {

@@ -40,8 +40,5 @@ impl fmt::Display for FateLetter {
 pub fn cause_number(cause: Option<Cause>) -> u8
     ensures { result ≡ cause_shown cause }
 {
-    match cause {
-        Some(cause) => cause.number(),
-        None => 0,
-    }
+    cause.map_or(0, Cause::number)
 }

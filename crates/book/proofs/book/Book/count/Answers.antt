@@ -1,24 +1,15 @@
-use Rattle.std.proofs.Common.{map, ap, arith, rules}
-use Rattle.std.proofs.lemmas.List.{at_drop_more, at_drop_all}
+use Rattle.std.proofs.Common.{◌≡◌, length, filter, sym, ◌∙◌, rules}
+use Rattle.std.proofs.lemmas.Iterator.{YieldsList-from_slice}
+use Rattle.std.proofs.lemmas.Iterator.Consumers.{count_from_yields_List, YieldsList-from_filter, YieldsList-at}
+use borrow.Author.Tests.{tests}
 use Rattle.model.specs.Packets.{is_fate}
-use Rattle.model.specs.Promises.{count, one}
-use Rattle.book.specs.Records.{record_of}
+use Rattle.book.proofs.Counts.{count_filter}
 use Rattle.book.proofs.book.Book.count.Goals as goal
-
-pub loop-packet-init : goal.loop-packet-init
-loop-packet-init g c =
-    let e = ap (λ xs. count c.args.fate (map record_of xs)) c.as_slice-packet-items.ensures.value in
-    (omega (arith, e), omega arith)
-
-pub loop-packet-preserved : goal.loop-packet-preserved
-loop-packet-preserved g c =
-    let step = at_drop_more (λ xs. count c.args.fate (map record_of xs)) c.as_slice-packet-items.result.now
-    c.loop-packet.packet-index c.packet-item.result c.loop-packet-test.true in
-    let read = ap (λ x. one (is_fate c.args.fate x.fate)) c.packet-item.is in
-    (omega (arith, step, read, c.tally-n.ensures), search rules)
 
 pub returns : goal.returns
 returns g c =
-    let e = at_drop_all (λ xs. count c.args.fate (map record_of xs)) c.as_slice-packet-items.result.now
-    c.loop-packet.packet-index c.loop-packet-test.false in
-    omega (arith, e, c.loop-packet.invariant.0)
+    count_from_yields_List c.filter.result c.count.result c.count.ensures.ran
+    (YieldsList-from_filter _ (λ x. is_fate c.args.fate x.fate)
+    (YieldsList-at c.filter.ensures.source (YieldsList-from_slice c.args.self.now.table.records.items (cc)))
+    c.filter.ensures.closure (λ x b q k. search (rules, tests)))
+    ∙ sym (count_filter c.args.fate c.args.self.now.table.records.items)

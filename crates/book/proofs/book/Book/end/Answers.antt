@@ -4,10 +4,10 @@ use Rattle.book.specs.Records.{record_of}
 use Rattle.book.proofs.Places.{revise_ended, revise_beyond}
 use Rattle.book.proofs.book.Book.end.Goals as goal
 
-pub returns-then-packet-len : goal.returns-then-packet-len
-returns-then-packet-len g c =
-    revise_ended c.args.self.now.table.records.items c.args.packet _ _ (search rules) c.end.ensures.ended
+pub returns-then-end-len : goal.returns-then-end-len
+returns-then-end-len g c =
+    revise_ended c.args.self.now.table.records.items c.args.end.packet _ _ (search rules) c.end.ensures.ended
 
-pub returns-else-packet-len : goal.returns-else-packet-len
-returns-else-packet-len g c =
-    sym (revise_beyond _ (map record_of c.args.self.now.table.records.items) c.args.packet (search (rules, length-map)))
+pub returns-else-end-len : goal.returns-else-end-len
+returns-else-end-len g c =
+    sym (revise_beyond _ (map record_of c.args.self.now.table.records.items) c.args.end.packet (search (rules, length-map)))
