@@ -40,11 +40,11 @@ impl<P: Plant> Network<P> {
             (state_of self.new.routers (P.Plant.value self.new.plant)) }
     {
         self.routers.runs()?;
-        let ttl = self.routers.ttl_of(router, ttl)?;
+        let hand = self.routers.parse_inject(router, ttl)?;
         let fec = self.routers.fec_of(address);
-        let verdict = self.entry_verdict(router, ttl, fec);
-        let packet = self.routers.enter(router, address, ttl, fec);
-        self.deal(packet as u32, router, ttl, verdict);
+        let verdict = self.entry_verdict(hand, fec);
+        let packet = self.routers.enter(hand, address, fec);
+        self.deal(packet as u32, hand, verdict);
         Ok(packet)
     }
 

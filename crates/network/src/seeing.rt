@@ -7,6 +7,7 @@ ghost use Rattle.model.specs.Calls.{top_ttl, arriving, polled};
 ghost use Rattle.network.specs.Networks.{plan_of, state_of};
 ghost use Rattle.network.specs.Dealing.{Seen, arrival_of};
 
+use crate::hand::InHand;
 use crate::network::Network;
 use frame::{Frame, Kind, Stack};
 use model::Met;
@@ -32,9 +33,10 @@ impl<P: Plant> Network<P> {
         if !self.routers.awaits(packet) {
             return Met::Stray;
         }
-        let router = self.routers.end_of(line);
+        let router = self.routers.end_of(line).number();
         let verdict = self.stack_verdict(router, stack);
-        self.deal(packet, router, top_ttl(stack), verdict);
+        let ttl = top_ttl(stack);
+        self.deal(packet, InHand { router, ttl }, verdict);
         Met::Packet
     }
 

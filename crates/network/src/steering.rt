@@ -15,8 +15,8 @@ impl Routers {
         ensures keeps { Keeps self.old self.new }
     {
         self.runs()?;
-        let on = self.mark_of(router, fec, mark)?;
-        self.tables.own(router, fec, on);
+        let (router, fec, on) = self.parse_own(router, fec, mark)?;
+        self.tables.own(router.number(), fec.number() as u32, on);
         Ok(())
     }
 
@@ -31,8 +31,9 @@ impl Routers {
         ensures keeps { Keeps self.old self.new }
     {
         self.runs()?;
-        self.may_route(router, fec, line)?;
-        self.tables.route(router, fec, line);
+        let (router, fec) = self.parse_route(router, fec, line)?;
+        self.tables
+            .route(router.number(), fec.number() as u32, line);
         Ok(())
     }
 }

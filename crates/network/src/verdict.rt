@@ -1,9 +1,11 @@
 // What is to be done with a packet in hand.
+use grid::Label;
 use model::Cause;
 
 #[derive(Clone, Copy)]
 pub enum Verdict {
     Deliver,
     Drop(Cause),
-    Forward { line: usize, label: usize },
+    // over a line, with a label
+    Forward { line: usize, label: Label },
 }
