@@ -1,5 +1,5 @@
 -- At most one FEC of a table whose FECs are apart has the greatest covering length. Assumes nothing.
-use Rattle.std.proofs.Common.{◌≡◌, ℕ, ◌<◌, ◌≤◌, min, true, leb, List, length, Some, None, Option, sym, refl, ⊎_elim, arith}
+use Rattle.std.proofs.Common.{◌≡◌, ℕ, ◌<◌, ◌≤◌, min, true, leb, List, length, Some, None, Option, sym, ⊎_elim, arith}
 use Rattle.std.proofs.lemmas.Bool.Decides.{nat_tests, leb_tells}
 use Rattle.lookup.specs.declared.address.Address.{Address}
 use Rattle.lookup.specs.declared.address.Address.TheVariants.{V4 as addr4, V6 as addr6}
@@ -10,7 +10,6 @@ use Rattle.lookup.specs.Agreement.{agree4, agree6}
 use Rattle.lookup.specs.Matches.{fec_at, BestMatch, OnlyMatch}
 use Rattle.lookup.specs.Tables.{clash, Apart}
 use Rattle.lookup.specs.Agree.{symmetric4, between4, symmetric6, between6}
-use Rattle.lookup.proofs.Longest.{never}
 
 -- two prefixes of one length that cover one address: the one covers the other's start
 meet : {T : Type 0} (agrees : T → T → ℕ) → ((a b : T) → agrees a b ≡ agrees b a)
@@ -26,12 +25,12 @@ both_cover (fec4 p) (fec4 q) (addr4 x) a b e =
     let m = meet agree4 symmetric4 between4 p.start q.start x p.len q.len a b e in grind (arith, nat_tests)
 both_cover (fec6 p) (fec6 q) (addr6 x) a b e =
     let m = meet agree6 symmetric6 between6 p.start q.start x p.len q.len a b e in grind (arith, nat_tests)
-both_cover (fec4 p) (fec4 q) (addr6 x) a b e = never refl a
-both_cover (fec4 p) (fec6 q) (addr4 x) a b e = never refl b
-both_cover (fec4 p) (fec6 q) (addr6 x) a b e = never refl a
-both_cover (fec6 p) (fec4 q) (addr4 x) a b e = never refl a
-both_cover (fec6 p) (fec4 q) (addr6 x) a b e = never refl b
-both_cover (fec6 p) (fec6 q) (addr4 x) a b e = never refl a
+both_cover (fec4 p) (fec4 q) (addr6 x) a b e = cc
+both_cover (fec4 p) (fec6 q) (addr4 x) a b e = cc
+both_cover (fec4 p) (fec6 q) (addr6 x) a b e = cc
+both_cover (fec6 p) (fec4 q) (addr4 x) a b e = cc
+both_cover (fec6 p) (fec4 q) (addr6 x) a b e = cc
+both_cover (fec6 p) (fec6 q) (addr4 x) a b e = cc
 
 module _ (fs : List Fec) (x : Address) (s : Apart fs) where
   abbrev size : ℕ → ℕ
@@ -41,8 +40,8 @@ module _ (fs : List Fec) (x : Address) (s : Apart fs) where
       → covers (fec_at fs i) x ≡ true → covers (fec_at fs k) x ≡ true → size k ≡ size i → ⊥
   unlike i k a b ne p q e =
       ⊎_elim
-      (λ l. let m : i < k = omega (arith, l.1, ne) in never {X = ⊥} (s i k (m, b)) (both_cover (fec_at fs i) (fec_at fs k) x p q (sym e)))
-      (λ l. never {X = ⊥} (s k i (l.1, a)) (both_cover (fec_at fs k) (fec_at fs i) x q p e)) (leb_tells i k)
+      (λ l. let m : i < k = omega (arith, l.1, ne) in cc (s i k (m, b), both_cover (fec_at fs i) (fec_at fs k) x p q (sym e)))
+      (λ l. cc (s k i (l.1, a), both_cover (fec_at fs k) (fec_at fs i) x q p e)) (leb_tells i k)
 
   pub only_match : (r : Option ℕ) → BestMatch fs x r → OnlyMatch fs x r
   only_match None b = tt

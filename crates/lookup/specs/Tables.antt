@@ -1,5 +1,6 @@
 -- What a table of FECs keeps, and why one is not added. Assumes nothing.
-use Rattle.std.specs.Prelude.{◌≡◌, ℕ, ◌<◌, Bool, true, false, cond, not, ◌&&◌, ◌||◌, List, [], ◌∷◌, length, Some, None, Ok, Err, Option, Result, ◌==◌, nat_le, nat_lt}
+use Rattle.std.specs.Prelude.{◌≡◌, ℕ, ◌<◌, Bool, true, false, cond, not, ◌&&◌, List, length, Some, None, Ok, Err, Option, Result, ◌==◌, nat_le, nat_lt}
+use Rattle.std.specs.List.{list_any}
 use Rattle.frame.specs.declared.refusal.Refusal.{Refusal}
 use Rattle.frame.specs.Numbers.{refusal_number}
 use Rattle.lookup.specs.declared.address.Address.{Address}
@@ -19,8 +20,7 @@ clash g f = length_of g == length_of f && covers g (start_of f)
 
 -- one of the FECs clashes with f
 abbrev pub taken : List Fec → Fec → Bool
-taken [] f = false
-taken (g ∷ gs) f = clash g f || taken gs f
+taken fs f = list_any (λ g. clash g f) fs
 
 -- the number with which a FEC is refused: a void plan, its length, a full table, then a FEC that has its place
 abbrev pub add_refusal : Bool → List Fec → Address → ℕ → Option ℕ

@@ -20,6 +20,7 @@ pub enum Address {
     V6(Ipv6),
 }
 
+// Named constructors, and no From<u32>: the name of the kind stands at each call, where a bare number would not show it.
 impl Address {
     pub fn ipv4(bits: u32) -> Address
         ensures { result ≡ of_ipv4 bits }

@@ -10,6 +10,7 @@ pub struct Prefix<T> {
     pub len: u8,
 }
 
+// An enum and no type parameter, since one table holds FECs of both kinds: so each question of a FEC has an arm for each kind.
 #[derive(Clone, Copy)]
 pub enum Fec {
     V4(Prefix<Ipv4>),

@@ -11,7 +11,7 @@ use crate::fec::{Fec, Prefix};
 use crate::kind::{AddressKind, one_among};
 
 impl AddressKind for Ipv4 {
-    ghost width = { 32 };
+    ghost WIDTH = { 32 };
 
     ghost value = { λ a. a.bits };
 
@@ -30,10 +30,6 @@ impl AddressKind for Ipv4 {
     ghost symmetric = { symmetric4 };
 
     ghost between = { between4 };
-
-    fn bits() -> u8 {
-        Self::WIDTH
-    }
 
     fn agree(&self, other: &Ipv4) -> u8 {
         (self.bits ^ other.bits).leading_zeros() as u8

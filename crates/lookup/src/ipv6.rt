@@ -1,7 +1,7 @@
 // IPv6: 128 bits in two words.
 ghost use Rattle.std.specs.Prelude.{◌≡◌, ℕ};
 ghost use Rattle.std.proofs.Common.{ap₂, rules};
-ghost use Rattle.lookup.specs.Agreement.{agree6, behind_halves, value6, carried};
+ghost use Rattle.lookup.specs.Agreement.{agree6, value6, carried};
 ghost use Rattle.lookup.specs.Fecs.{held6};
 ghost use Rattle.lookup.specs.Agree.{agree_equal, agree_within, agree_apart, carried_full, symmetric6, between6};
 ghost use Rattle.lookup.specs.declared.address.Ipv6.{Ipv6};
@@ -10,19 +10,8 @@ use crate::address::Ipv6;
 use crate::fec::{Fec, Prefix};
 use crate::kind::{AddressKind, one_among};
 
-// Whether two words have a one bit behind their first `len` bits.
-fn one_behind(high: u64, low: u64, len: u8) -> bool
-    ensures { result ≡ behind_halves high low len }
-{
-    if len < 64 {
-        low != 0 || one_among(high, 64 - len)
-    } else {
-        one_among(low, 128u8.saturating_sub(len))
-    }
-}
-
 impl AddressKind for Ipv6 {
-    ghost width = { 128 };
+    ghost WIDTH = { 128 };
 
     ghost value = { value6 };
 
@@ -45,10 +34,6 @@ impl AddressKind for Ipv6 {
 
     ghost between = { between6 };
 
-    fn bits() -> u8 {
-        Self::WIDTH
-    }
-
     fn agree(&self, other: &Ipv6) -> u8 {
         let first = (self.high ^ other.high).leading_zeros() as u8;
         if first < 64 {
@@ -57,8 +42,13 @@ impl AddressKind for Ipv6 {
         64 + (self.low ^ other.low).leading_zeros() as u8
     }
 
+    #[tactic(auto, using(crate::proofs::Halves::by_halves))]
     fn host_bits(&self, len: u8) -> bool {
-        one_behind(self.high, self.low, len)
+        if len < 64 {
+            self.low != 0 || one_among(self.high, 64 - len)
+        } else {
+            one_among(self.low, Self::WIDTH.saturating_sub(len))
+        }
     }
 
     fn prefix(fec: &Fec) -> Option<Prefix<Ipv6>> {

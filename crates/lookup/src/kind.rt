@@ -8,7 +8,7 @@ use crate::fec::{Fec, Prefix};
 
 pub trait AddressKind: Copy {
     // the number of bits of such an address
-    ghost width: { ℕ };
+    ghost WIDTH: { ℕ };
 
     // its bits as one number
     ghost value: { Self → ℕ };
@@ -21,25 +21,28 @@ pub trait AddressKind: Copy {
 
     const WIDTH: u8;
 
-    // WIDTH, with what it is
     fn bits() -> u8
-        ensures { result ≡ width };
+        ensures { result ≡ WIDTH }
+    {
+        Self::WIDTH
+    }
 
     fn agree(&self, other: &Self) -> u8
         ensures { result ≡ agrees self.now other.now };
 
     // Whether it has a one bit behind its first `len` bits.
     fn host_bits(&self, len: u8) -> bool
-        ensures { result ≡ one_behind width (value self.now) len };
+        ensures { result ≡ one_behind WIDTH (value self.now) len };
 
+    // The prefix of a FEC of this kind. No TryFrom: that needs an error type which says nothing, and a bound at each user.
     fn prefix(fec: &Fec) -> Option<Prefix<Self>>
         ensures { result ≡ held fec.now };
 
-    ghost within: { (a b : Self) → agrees a b ≤ width };
+    ghost within: { (a b : Self) → agrees a b ≤ WIDTH };
 
-    ghost equal: { (a : Self) → agrees a a ≡ width };
+    ghost equal: { (a : Self) → agrees a a ≡ WIDTH };
 
-    ghost apart: { (a b : Self) → agrees a b ≡ width → a ≡ b };
+    ghost apart: { (a b : Self) → agrees a b ≡ WIDTH → a ≡ b };
 
     ghost symmetric: { (a b : Self) → agrees a b ≡ agrees b a };
 

@@ -1,5 +1,5 @@
 // A plan: how many routers, the policy, and the FECs in the order added. A void plan has 0 routers, and takes no FEC.
-ghost use Rattle.std.specs.Prelude.{◌≡◌, ◌≤◌, false, vec_len, vec_capacity};
+ghost use Rattle.std.specs.Prelude.{◌≤◌, vec_len, vec_capacity};
 ghost use Rattle.lookup.specs.Tables.{AllFit, Apart};
 
 use crate::fec::Fec;
@@ -13,14 +13,20 @@ pub enum Policy {
     Independent,
 }
 
-#[derive(Drop)]
-pub struct Plan {
-    pub(crate) void: bool,
+// What a plan that is not void was made with.
+#[derive(Clone, Copy)]
+pub(crate) struct Setting {
     pub(crate) routers: u32,
     pub(crate) policy: Policy,
-    pub(crate) fecs: Vec<Fec>,
+    ghost least: { 1 ≤ routers },
     ghost most: { routers ≤ 16 },
-    ghost least: { (void ≡ false → 1 ≤ routers) },
+}
+
+#[derive(Drop)]
+pub struct Plan {
+    // none in a void plan
+    pub(crate) setting: Option<Setting>,
+    pub(crate) fecs: Vec<Fec>,
     ghost few: { vec_len fecs ≤ 32 },
     ghost room: { 32 ≤ vec_capacity fecs },
     ghost fit: { AllFit fecs.items },

@@ -2,12 +2,12 @@
 ghost use Rattle.std.specs.Prelude.{◌≡◌, length, IfOk, if◌then◌else◌, Some, None};
 ghost use Rattle.frame.specs.Numbers.{told_by};
 ghost use Rattle.lookup.specs.Matches.{fec_numbered, best_match, BestMatch, OnlyMatch};
-ghost use Rattle.lookup.specs.Plans.{policy_at, fecs_of, routers_of, policy_of, void_of, NewPlan, Added};
+ghost use Rattle.lookup.specs.Plans.{fecs_of, routers_of, policy_of, void_of, PolicyMade, SettingMade, NewPlan, Added};
 
 use crate::address::Address;
 use crate::fec::Fec;
-use crate::matching::find_only;
-use crate::plan::{Plan, Policy};
+use crate::matching::find_longest;
+use crate::plan::{Plan, Policy, Setting};
 use crate::table::{fec_of, is_taken};
 use frame::Refusal;
 use std::alloc::{AllocError, Global};
@@ -15,13 +15,30 @@ use std::alloc::{AllocError, Global};
 // The most FECs that a plan has.
 const MOST_FECS: usize = 32;
 
-fn policy_at(number: u32) -> Option<Policy>
-    ensures { result ≡ policy_at number }
-{
-    match number {
-        0 => Some(Policy::Ordered),
-        1 => Some(Policy::Independent),
-        _ => None,
+impl TryFrom<u32> for Policy {
+    type Error = Refusal;
+
+    ghost try_from_gives = { PolicyMade };
+
+    fn try_from(number: u32) -> Result<Policy, Refusal> {
+        match number {
+            0 => Ok(Policy::Ordered),
+            1 => Ok(Policy::Independent),
+            _ => Err(Refusal::OutOfRange),
+        }
+    }
+}
+
+impl Setting {
+    // 1 to 16 routers, and policy 0 or 1.
+    fn new(routers: u32, policy: u32) -> Result<Setting, Refusal>
+        ensures { SettingMade routers policy result }
+    {
+        let policy = Policy::try_from(policy)?;
+        if !(1..=16).contains(&routers) {
+            return Err(Refusal::OutOfRange);
+        }
+        Ok(Setting { routers, policy })
     }
 }
 
@@ -31,33 +48,17 @@ impl Plan {
         ensures { IfOk result (λ p. NewPlan routers policy p) }
     {
         let fecs = Vec::with_capacity(heap, MOST_FECS)?;
-        let known = policy_at(policy);
-        if let Some(policy) = known {
-            if routers >= 1 && routers <= 16 {
-                return Ok(Plan {
-                    void: false,
-                    routers,
-                    policy,
-                    fecs,
-                });
-            }
-        }
-        Ok(Plan {
-            void: true,
-            routers: 0,
-            policy: Policy::Ordered,
-            fecs,
-        })
+        let setting = Setting::new(routers, policy).ok();
+        Ok(Plan { setting, fecs })
     }
 
     // Why the plan is void, if it is.
     pub fn fault(&self) -> Option<Refusal>
         ensures { told_by result ≡ (if void_of self.now then Some 7 else None) }
     {
-        if self.void {
-            Some(Refusal::OutOfRange)
-        } else {
-            None
+        match self.setting {
+            Some(_) => None,
+            None => Some(Refusal::OutOfRange),
         }
     }
 
@@ -65,9 +66,7 @@ impl Plan {
     pub fn add(&mut self, address: Address, len: u32) -> Result<usize, Refusal>
         ensures { Added self.old address len result self.new }
     {
-        if self.void {
-            return Err(Refusal::OutOfRange);
-        }
+        self.setting.ok_or(Refusal::OutOfRange)?;
         let fec = fec_of(address, len)?;
         let number = self.fecs.len();
         if number >= MOST_FECS {
@@ -83,13 +82,13 @@ impl Plan {
     pub fn routers(&self) -> u32
         ensures { result ≡ routers_of self.now }
     {
-        self.routers
+        self.setting.map_or(0, |s| s.routers)
     }
 
     pub fn policy(&self) -> Policy
         ensures { result ≡ policy_of self.now }
     {
-        self.policy
+        self.setting.map_or(Policy::Ordered, |s| s.policy)
     }
 
     pub fn len(&self) -> usize
@@ -102,19 +101,16 @@ impl Plan {
     pub fn fec(&self, number: usize) -> Option<Fec>
         ensures { result ≡ fec_numbered (fecs_of self.now) number }
     {
-        if number < self.fecs.len() {
-            Some(self.fecs[number])
-        } else {
-            None
-        }
+        self.fecs.get(number).copied()
     }
 
     // The number of the longest FEC that covers an address: every other that does is shorter.
+    #[tactic(auto, using(crate::proofs::Strict::only_match))]
     pub fn find(&self, address: Address) -> Option<usize>
         ensures named { result ≡ best_match (fecs_of self.now) address }
         ensures best { BestMatch (fecs_of self.now) address result }
         ensures only { OnlyMatch (fecs_of self.now) address result }
     {
-        find_only(&self.fecs, &address)
+        find_longest(&self.fecs, &address)
     }
 }

@@ -9,7 +9,7 @@ use frame::Refusal;
 
 // A prefix of so many bits of an address; refused if the length is over the width, or a one bit is behind it.
 fn prefix_of<T: AddressKind>(start: T, len: u32) -> Result<Prefix<T>, Refusal>
-    ensures { PrefixMade T.AddressKind.width (T.AddressKind.value start) start len result }
+    ensures { PrefixMade T.WIDTH (T.value start) start len result }
 {
     if len > u32::from(T::bits()) {
         return Err(Refusal::OutOfRange);
@@ -24,9 +24,10 @@ fn prefix_of<T: AddressKind>(start: T, len: u32) -> Result<Prefix<T>, Refusal>
 pub(crate) fn fec_of(address: Address, len: u32) -> Result<Fec, Refusal>
     ensures { FecMade address len result }
 {
+    // Two arms of one text, as each calls the function at its own type.
     match address {
-        Address::V4(a) => Ok(Fec::V4(prefix_of(a, len)?)),
-        Address::V6(a) => Ok(Fec::V6(prefix_of(a, len)?)),
+        Address::V4(a) => prefix_of(a, len).map(Fec::V4),
+        Address::V6(a) => prefix_of(a, len).map(Fec::V6),
     }
 }
 
@@ -40,10 +41,5 @@ fn is_clash(other: &Fec, fec: &Fec) -> bool
 pub(crate) fn is_taken(table: &[Fec], fec: &Fec) -> bool
     ensures { result ≡ taken table.now fec.now }
 {
-    for i in 0..table.len() {
-        if is_clash(&table[i], fec) {
-            return true;
-        }
-    }
-    false
+    table.iter().any(|other| is_clash(other, fec))
 }

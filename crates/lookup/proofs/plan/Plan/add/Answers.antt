@@ -10,4 +10,4 @@ invariant_of-self c =
     c.args.address c.args.len c.is_taken.result c.deref.ensures.value c.is_taken.ensures c.if-is_taken.false
     c.in_ok-fec.ensures c.push_reserved.ensures.items p.fit p.apart
     in
-    record { most = p.most; least = p.least; few = omega arith; room = omega arith; fit = k.0; apart = k.1 }
+    record { few = omega arith; room = omega arith; fit = k.0; apart = k.1 }
