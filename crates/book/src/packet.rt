@@ -14,8 +14,7 @@ pub struct Record<A> {
     pub address: A,
     pub ttl: u8,
     pub fec: Option<usize>,
-    // not one field with the end inside: a record may have any fate beside any router and cause, as in the model, and a type
-    // with fewer values would ask more of who appends one
+    // these three are not one end: a record may have any of each, as in the model, and a narrower type would ask more
     pub fate: Fate,
     // where and why it ended
     pub router: Option<usize>,

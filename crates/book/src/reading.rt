@@ -40,6 +40,7 @@ impl<A: Copy> Book<A> {
     }
 
     // How many packets have a fate.
+    #[tactic(auto, using(crate::proofs::Counts::count_of_map))]
     pub fn count(&self, fate: Fate) -> usize
         ensures { result ≡ count fate (book_of self.now) }
     {

@@ -29,6 +29,7 @@ impl<A: Copy> Book<A> {
     }
 
     // Writes the end of a packet into its record; a number that no packet has changes nothing.
+    #[tactic(auto, using(crate::proofs::Places::revise_ended, crate::proofs::Places::revise_beyond))]
     pub fn end(&mut self, end: End)
         ensures { book_of self.new ≡ settle (Some (end_of end)) (book_of self.old) }
     {
