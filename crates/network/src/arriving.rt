@@ -1,12 +1,14 @@
 // Messages that come out of a line, and what the router there makes of them.
-ghost use Rattle.std.specs.Prelude.{◌≡◌, ◌<◌, false, List, Some, IfSome, is_some};
+ghost use Rattle.std.specs.Prelude.{◌≡◌, ◌<◌, false, List, Some, IfSome, is_some, nat_eq};
 ghost use Rattle.frame.specs.declared.entry.Entry.{Entry};
 ghost use Rattle.frame.specs.declared.kind.Kind.TheVariants.{Mapping, Withdraw, Release};
 ghost use Rattle.plant.specs.Plants.{PlantValue};
+ghost use Rattle.model.specs.Tables.{withdrawn};
 ghost use Rattle.model.specs.Packets.{at, is_waiting};
 ghost use Rattle.book.specs.Books.{book_of};
 ghost use Rattle.model.specs.Calls.{in_range, arriving, polled};
 ghost use Rattle.labels.specs.Wirings.{end_of};
+ghost use Rattle.tables.specs.Reading.{tables_of};
 ghost use Rattle.network.specs.Networks.{plan_of, state_of, wiring_of, Fits};
 ghost use Rattle.network.specs.Dealing.{Took};
 
@@ -86,6 +88,13 @@ impl Routers {
         Met::Message
     }
 
+    // Whether a release of a label is awaited on a line.
+    fn is_awaited(&self, line: usize, label: Label) -> bool
+        ensures { result ≡ nat_eq ((tables_of self.now.tables).stage line label) withdrawn }
+    {
+        matches!(self.tables.stage(line, label.number()), Stage::Withdrawn)
+    }
+
     // A release came out of a line. It is awaited.
     pub(crate) fn release(&mut self, line: usize, fec: u32, label: u32) -> Met
         requires line { line < (wiring_of self.old).lines }
@@ -95,7 +104,7 @@ impl Routers {
         let Some((_, label)) = self.named(fec, label) else {
             return Met::Stray;
         };
-        if !matches!(self.tables.stage(line, label.number()), Stage::Withdrawn) {
+        if !self.is_awaited(line, label) {
             return Met::Stray;
         }
         self.tables.released(line, label.number());
