@@ -2,7 +2,7 @@
 use Rattle.std.proofs.Common.{◌≡◌, ℕ, ◌+◌, Bool, true, false, cond, ◌&&◌, ltb, ap, ◌∙◌, inl, inr, arith}
 use Rattle.std.proofs.lemmas.Bool.Decides.{nat_tests}
 use Rattle.model.specs.Tables.{put, put2}
-use Rattle.labels.proofs.Puts.{places, put2_here, put2_there}
+use Rattle.grid.proofs.Puts.{places, put2_here, put2_there}
 
 -- the rows below i that pass are changed
 abbrev pub below : (ℕ → Bool) → ℕ → (ℕ → ℕ) → (ℕ → ℕ → ℕ) → ℕ → ℕ → ℕ → ℕ

@@ -1,7 +1,4 @@
-pub mod Same
 pub mod Firsts
-pub mod Puts
-pub mod Grids
 pub mod Changes
 pub mod Shapes
 pub mod Settling

@@ -1,20 +1,21 @@
 -- The lines of a wired shape are those of the wiring. Assumes nothing.
-use Rattle.std.proofs.Common.{◌≡◌, ℕ, ◌<◌, Bool, true, false, cond, not, ◌&&◌, eqb, ltb, get_or, Some, None, sym, ap, ◌∙◌, ap₂, inl, inr, arith}
-use Rattle.std.proofs.lemmas.Bool.{cases_Bool, ltb-true, lt-ltb, cond-true, cond-false}
+use Rattle.std.proofs.Common.{◌≡◌, ℕ, ◌<◌, ◌≤◌, Bool, true, false, cond, not, ◌&&◌, eqb, ltb, get_or, option_map, Some, None, sym, ap, ◌∙◌, ap₂, inl, inr, arith}
+use Rattle.std.proofs.lemmas.Bool.{cases_Bool, ltb-true, le-ltb, cond-true, cond-false}
 use Rattle.plant.specs.Plants.{Shape}
 use Rattle.model.specs.Tables.{Tables, put, first, is_some, untold, free, is_leaving, on_lines_into, is_quiet, tidy, with_labels, put2}
 use Rattle.model.specs.Calls.{is_this}
 use Rattle.labels.specs.declared.wiring.Wiring.{Wiring}
-use Rattle.labels.specs.Wirings.{Wired, leads_into, quiet_on}
+use Rattle.labels.specs.Wirings.{Wired, end_of, leads_into, quiet_on}
 use Rattle.labels.proofs.Firsts.{first_same}
 use Rattle.labels.proofs.Changes.{below}
 
 -- where a line ends
-pub ends_same : (w : Wiring) (S : Shape) → Wired w S → (e : ℕ) → e < w.lines → get_or w.to e 0 ≡ (S.line e).to
-ends_same w S wired e u =
-    let there : Some (get_or w.to e 0) ≡ Some (S.line e).to =
-    sym (cond-true (ltb e w.lines) (Some (get_or w.to e 0)) None (lt-ltb e w.lines u)) ∙ wired.to e (omega (arith, wired.lines)) in
-    cc there
+pub end_same : (w : Wiring) (S : Shape) → Wired w S → (e r : ℕ) → e < w.lines → end_of w e ≡ Some r → r ≡ (S.line e).to
+end_same w S wired e r u is = let to = wired.to e (omega (arith, wired.lines)) in cc (is, to)
+
+-- past the last line there is no end
+pub no_end : (w : Wiring) (e : ℕ) → w.lines ≤ e → end_of w e ≡ None
+no_end w e u = ap (option_map (λ p. p.1)) (cond-false (ltb e w.lines) (Some (get_or w.ends e (0, 0))) None (le-ltb e w.lines u))
 
 module _ (w : Wiring) (S : Shape) (wired : Wired w S) (r : ℕ) where
   -- on a line of the wiring

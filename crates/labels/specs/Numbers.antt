@@ -1,10 +1,8 @@
--- The stages as the model counts them, and how news of a label changes them. Assumes nothing.
-use Rattle.std.specs.Prelude.{ℕ}
-use Rattle.model.specs.Tables.{untold, mapping_due, told, withdraw_due, withdrawn, fall}
+-- The stages as the model counts them. Assumes nothing.
+use Rattle.std.specs.Prelude.{◌≡◌, ℕ}
+use Rattle.model.specs.Tables.{untold, mapping_due, told, withdraw_due, withdrawn}
 use Rattle.labels.specs.declared.stage.Stage.{Stage}
 use Rattle.labels.specs.declared.stage.Stage.TheVariants.{Untold, MappingDue, Told, WithdrawDue, Withdrawn}
-use Rattle.labels.specs.declared.stage.News.{News}
-use Rattle.labels.specs.declared.stage.News.TheVariants.{Binds, Leaves}
 
 abbrev pub stage_number : Stage → ℕ
 stage_number Untold = untold
@@ -13,7 +11,6 @@ stage_number Told = told
 stage_number WithdrawDue = withdraw_due
 stage_number Withdrawn = withdrawn
 
--- the stage of a label once there is this to tell of it
-abbrev pub changed : News → ℕ → ℕ
-changed Binds x = mapping_due
-changed Leaves x = fall x
+-- what news makes of a stage is, in the model's numbers, c
+abbrev pub Follows : (Stage → Stage → Type 0) → (ℕ → ℕ) → Type 0
+Follows R c = (x y : Stage) → R x y → stage_number y ≡ c (stage_number x)

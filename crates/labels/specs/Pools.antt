@@ -3,8 +3,6 @@ use Rattle.std.specs.Prelude.{◌≡◌, ℕ, Bool, true, false}
 use Rattle.model.specs.Tables as model
 use Rattle.labels.specs.declared.status.Status.{Status}
 use Rattle.labels.specs.declared.status.Status.TheVariants.{Free, Taken, Bound, Leaving}
-use Rattle.labels.specs.declared.status.Sought.{Sought}
-use Rattle.labels.specs.declared.status.Sought.TheVariants.{Open, BoundTo}
 use Rattle.labels.specs.declared.pool.Pool.{Pool}
 use Rattle.labels.specs.Arrays.{by_label}
 
@@ -17,7 +15,7 @@ status_of (Leaving f) = model.leaving f
 
 -- router, label
 abbrev pub slots : Pool → ℕ → ℕ → Status
-slots p = by_label 16 Free p.at
+slots p = by_label 16 Free p.at.cells
 
 -- the same in the model's words
 abbrev pub statuses_of : Pool → ℕ → ℕ → model.Status
@@ -37,10 +35,9 @@ is_taken Taken = true
 is_taken (Bound f) = false
 is_taken (Leaving f) = false
 
--- a status is what is sought
-abbrev pub fits : Sought → Status → Bool
-fits Open s = is_open s
-fits (BoundTo f) s = model.is_bound_to f (status_of s)
+-- the test tells of each status what p says
+abbrev pub Tests : (Status → Bool → Type 0) → (Status → Bool) → Type 0
+Tests R p = (x : Status) (b : Bool) → R x b → b ≡ p x
 
 -- no label is taken
 abbrev pub Settled : Pool → Type 0

@@ -8,7 +8,7 @@ use Rattle.labels.specs.Arrays.{by_label}
 
 -- line, label
 abbrev pub stage_at : Stages → ℕ → ℕ → Stage
-stage_at s = by_label 48 Untold s.at
+stage_at s = by_label 48 Untold s.at.cells
 
 -- the same in the model's numbers
 abbrev pub stages_of : Stages → ℕ → ℕ → ℕ

@@ -1,17 +1,21 @@
 -- What a wiring says of lines. Assumes nothing.
-use Rattle.std.specs.Prelude.{◌≡◌, ℕ, ◌+◌, ◌<◌, Bool, true, cond, not, ◌&&◌, Some, None, Option, ◌==◌, nat_lt, slice_index}
+use Rattle.std.specs.Prelude.{◌≡◌, ℕ, ◌+◌, ◌<◌, Bool, true, cond, not, ◌&&◌, Some, None, Option, ◌==◌, nat_lt, slice_index_or, option_map}
 use Rattle.plant.specs.Plants.{Shape}
 use Rattle.model.specs.Tables.{first, is_some, untold}
 use Rattle.model.specs.Calls.{is_this}
 use Rattle.labels.specs.declared.wiring.Wiring.{Wiring}
 
+-- where line e begins and ends
+abbrev pub ends_of : Wiring → ℕ → Option (ℕ × ℕ)
+ends_of w e = cond (nat_lt e w.lines) (Some (slice_index_or w.ends e (0, 0))) None
+
 -- where line e begins
 abbrev pub begin_of : Wiring → ℕ → Option ℕ
-begin_of w e = cond (nat_lt e w.lines) (Some (slice_index w.from e)) None
+begin_of w e = option_map (λ p. p.0) (ends_of w e)
 
 -- where line e ends
 abbrev pub end_of : Wiring → ℕ → Option ℕ
-end_of w e = cond (nat_lt e w.lines) (Some (slice_index w.to e)) None
+end_of w e = option_map (λ p. p.1) (ends_of w e)
 
 -- line e ends at r
 abbrev pub leads_into : Wiring → ℕ → ℕ → Bool

@@ -1,6 +1,6 @@
 // A wiring is built line by line, and asked.
 ghost use Rattle.std.specs.Prelude.{◌≡◌};
-ghost use Rattle.labels.specs.Wirings.{begin_of, end_of, leads_into, Adds};
+ghost use Rattle.labels.specs.Wirings.{ends_of, begin_of, end_of, leads_into, Adds};
 
 use crate::wiring::Wiring;
 
@@ -10,8 +10,7 @@ impl Wiring {
     {
         Wiring {
             lines: 0,
-            from: [0; 48],
-            to: [0; 48],
+            ends: [(0, 0); 48],
         }
     }
 
@@ -22,41 +21,36 @@ impl Wiring {
         if self.lines >= 48 {
             return false;
         }
-        self.from[self.lines] = from;
-        self.to[self.lines] = to;
+        self.ends[self.lines] = (from, to);
         self.lines += 1;
         true
+    }
+
+    // Where a line begins and ends.
+    fn ends(&self, line: usize) -> Option<(usize, usize)>
+        ensures { result ≡ ends_of self.now line }
+    {
+        self.ends[..self.lines].get(line).copied()
     }
 
     // Where a line begins.
     pub fn from(&self, line: usize) -> Option<usize>
         ensures { result ≡ begin_of self.now line }
     {
-        if line < self.lines {
-            Some(self.from[line])
-        } else {
-            None
-        }
+        self.ends(line).map(|ends| ends.0)
     }
 
     // Where a line ends.
     pub fn to(&self, line: usize) -> Option<usize>
         ensures { result ≡ end_of self.now line }
     {
-        if line < self.lines {
-            Some(self.to[line])
-        } else {
-            None
-        }
+        self.ends(line).map(|ends| ends.1)
     }
 
     // Whether a line ends at a router.
     pub(crate) fn leads_into(&self, line: usize, router: usize) -> bool
         ensures { result ≡ leads_into self.now line router }
     {
-        match self.to(line) {
-            Some(end) => end == router,
-            None => false,
-        }
+        self.to(line) == Some(router)
     }
 }

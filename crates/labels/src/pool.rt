@@ -1,101 +1,74 @@
-// The status of each label of each router: 16 routers times 64 labels in one flat array. Labels are granted from here.
-ghost use Rattle.std.specs.Prelude.{◌≡◌, ℕ, ◌<◌, ◌≤◌, IfSome, IsFalse};
+// The status of each label of each router, in one flat array. Labels are granted from here.
+ghost use Rattle.std.specs.Prelude.{◌≡◌, ℕ, Bool, IfSome, IsFalse};
 ghost use Rattle.model.specs.Tables.{put2, first_label};
-ghost use Rattle.labels.specs.Arrays.{Within, by_label};
-ghost use Rattle.labels.specs.Pools.{slots, fits};
+ghost use Rattle.labels.specs.Pools.{slots, Tests};
 ghost use Rattle.labels.specs.Grants.{Takes};
 
 use crate::grant::Grant;
-use crate::status::{Sought, Status};
+use crate::status::Status;
+use grid::{Grid, Label, Router};
 
 #[derive(Drop)]
 pub struct Pool {
-    pub(crate) at: [Status; 1024],
+    pub(crate) at: Grid<Status, 16, 16, 80, 1024>,
 }
 
 impl Pool {
     pub fn new() -> Pool
         ensures { (router label : ℕ) → slots result router label ≡ Status.Free }
     {
-        Pool::filled(Status::Free)
-    }
-
-    // All labels have one status.
-    fn filled(status: Status) -> Pool
-        ensures { (router label : ℕ) → by_label 16 status result.at router label ≡ status }
-    {
-        Pool { at: [status; 1024] }
+        Pool {
+            at: Grid::filled(Status::Free),
+        }
     }
 
     pub fn get(&self, router: usize, label: usize) -> Status
         ensures { result ≡ slots self.now router label }
     {
-        if router < 16 && label >= 16 && label < 80 {
-            self.at[router * 64 + (label - 16)]
-        } else {
-            Status::Free
-        }
+        self.at.get(router, label).unwrap_or(Status::Free)
     }
 
-    fn put(&mut self, router: usize, label: usize, status: Status)
-        requires router { router < 16 }
-        requires least { 16 ≤ label }
-        requires most { label < 80 }
+    fn put(&mut self, router: Router, label: Label, status: Status)
         ensures { slots self.new ≡ put2 (slots self.old) router label status }
     {
-        self.at[router * 64 + (label - 16)] = status;
+        self.at.set(router, label, status);
     }
 
     // A label of a router is leaving a FEC.
-    pub(crate) fn leave(&mut self, router: usize, label: usize, fec: u32)
-        requires router { router < 16 }
-        requires least { 16 ≤ label }
-        requires most { label < 80 }
+    pub(crate) fn leave(&mut self, router: Router, label: Label, fec: u32)
         ensures { slots self.new ≡ put2 (slots self.old) router label (Status.Leaving fec) }
     {
         self.put(router, label, Status::Leaving(fec));
     }
 
     // A label of a router is free.
-    pub(crate) fn free(&mut self, router: usize, label: usize)
-        requires router { router < 16 }
-        requires least { 16 ≤ label }
-        requires most { label < 80 }
+    pub(crate) fn free(&mut self, router: Router, label: Label)
         ensures { slots self.new ≡ put2 (slots self.old) router label Status.Free }
     {
         self.put(router, label, Status::Free);
     }
 
-    // The smallest label of a router that fits.
-    pub(crate) fn first(&self, router: usize, sought: Sought) -> Option<usize>
-        ensures smallest { result ≡ first_label (λ l. fits sought (slots self.now router l)) }
-        ensures within { Within result }
+    // The smallest label of a router with a status that passes.
+    pub(crate) fn first<F: Fn(Status) -> bool>(&self, router: usize, sought: F) -> Option<Label>
+        requires { F.IsAlwaysCallable sought }
+        ensures { (p : Status → Bool) → Tests (F.post sought) p
+            → result ≡ first_label (λ l. p (slots self.now router l)) }
     {
-        for label in 16..80 {
-            if self.get(router, label).fits(sought) {
-                return Some(label);
-            }
-        }
-        None
+        Label::smallest(|label| sought(self.get(router, label.number())))
     }
 
     // Grants the smallest free label of a router. It is taken until the grant is spent, so no other grant is of it.
-    pub fn take(&mut self, router: usize) -> Option<Grant>
-        requires { router < 16 }
+    pub fn take(&mut self, router: Router) -> Option<Grant>
         ensures takes { Takes self.old router result self.new }
         ensures unspent { IfSome result (λ g. IsFalse g.spent) }
     {
-        match self.first(router, Sought::Open) {
-            Some(label) => {
-                self.put(router, label, Status::Taken);
-                Some(Grant {
-                    router,
-                    label,
-                    spent: false,
-                })
-            }
-            None => None,
-        }
+        let label = self.first(router.number(), |status| matches!(status, Status::Free))?;
+        self.put(router, label, Status::Taken);
+        Some(Grant {
+            router,
+            label,
+            spent: false,
+        })
     }
 
     // Binds a granted label to a FEC.

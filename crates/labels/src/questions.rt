@@ -1,15 +1,15 @@
 // Questions of the labels. What is out of range is free, untold or none.
 ghost use Rattle.std.specs.Prelude.{◌≡◌, nat_eq};
 ghost use Rattle.model.specs.Tables.{Tables, fec_of, label_of, first_label};
-ghost use Rattle.labels.specs.Arrays.{Within};
 ghost use Rattle.labels.specs.Numbers.{stage_number};
 ghost use Rattle.labels.specs.Pools.{status_of};
 ghost use Rattle.labels.specs.Reading.{labelled};
 
 use crate::labels::Labels;
 use crate::stage::Stage;
-use crate::status::{Sought, Status};
+use crate::status::Status;
 use crate::wiring::Wiring;
+use grid::Label;
 
 impl Labels {
     pub fn wiring(&self) -> &Wiring
@@ -38,18 +38,17 @@ impl Labels {
     }
 
     // The label of a router that is bound to a FEC.
-    pub fn bound_label(&self, router: usize, fec: u32) -> Option<usize>
-        ensures smallest { (t : Tables) → result ≡ label_of router fec (labelled self.now t) }
-        ensures within { Within result }
+    pub fn bound_label(&self, router: usize, fec: u32) -> Option<Label>
+        ensures { (t : Tables) → result ≡ label_of router fec (labelled self.now t) }
     {
-        self.pool.first(router, Sought::BoundTo(fec))
+        self.pool
+            .first(router, |status| status == Status::Bound(fec))
     }
 
     // The smallest label at a stage on a line.
-    pub fn first_at(&self, line: usize, stage: Stage) -> Option<usize>
-        ensures smallest { (t : Tables)
+    pub fn first_at(&self, line: usize, stage: Stage) -> Option<Label>
+        ensures { (t : Tables)
             → result ≡ first_label (λ l. nat_eq ((labelled self.now t).stage line l) (stage_number stage)) }
-        ensures within { Within result }
     {
         self.stages.first_at(line, stage)
     }

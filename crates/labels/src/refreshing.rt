@@ -1,8 +1,7 @@
 // How labels are bound, let go and freed.
-ghost use Rattle.std.specs.Prelude.{◌≡◌, ◌<◌, ◌≤◌, Bool, ◌&&◌, None};
+ghost use Rattle.std.specs.Prelude.{◌≡◌, ◌<◌, Bool, ◌&&◌, None};
 ghost use Rattle.plant.specs.Plants.{Shape};
 ghost use Rattle.model.specs.Tables.{Tables, blank, untold, put2, with_labels, free_label, may_bind, grant, let_go, unbind, tidy, refresh, is_leaving};
-ghost use Rattle.labels.specs.Arrays.{Within};
 ghost use Rattle.labels.specs.Numbers.{stage_number};
 ghost use Rattle.labels.specs.Reading.{labelled};
 ghost use Rattle.labels.specs.Pools.{statuses_of};
@@ -11,10 +10,11 @@ ghost use Rattle.labels.specs.Wirings.{Wired, quiet_on};
 
 use crate::labels::Labels;
 use crate::pool::Pool;
-use crate::stage::{News, Stage};
+use crate::stage::Stage;
 use crate::stages::Stages;
 use crate::status::Status;
 use crate::wiring::Wiring;
+use grid::{Label, Line, Router};
 
 impl Labels {
     // All labels free, and nothing told.
@@ -30,10 +30,7 @@ impl Labels {
     }
 
     // One stage becomes another.
-    pub fn set_stage(&mut self, line: usize, label: usize, stage: Stage)
-        requires line { line < 48 }
-        requires least { 16 ≤ label }
-        requires most { label < 80 }
+    pub fn set_stage(&mut self, line: Line, label: Label, stage: Stage)
         ensures put { (t : Tables) → labelled self.new t ≡ with_labels (labelled self.old t).status
             (put2 (labelled self.old t).stage line label (stage_number stage)) t }
         ensures kept { self.new.wiring ≡ self.old.wiring }
@@ -42,115 +39,76 @@ impl Labels {
     }
 
     // A label is released on a line: nothing is left to tell there, and if it was leaving and is done with everywhere it is free.
-    pub fn release(&mut self, line: usize, label: usize)
-        requires line { line < self.old.wiring.lines }
-        requires least { 16 ≤ label }
-        requires most { label < 80 }
+    pub fn release(&mut self, line: Line, label: Label)
+        requires { line < self.old.wiring.lines }
         ensures released { (S : Shape) (t : Tables) → Wired self.old.wiring S
             → labelled self.new t ≡ tidy S (S.line line).to label
             (with_labels (labelled self.old t).status (put2 (labelled self.old t).stage line label untold) t) }
         ensures kept { self.new.wiring ≡ self.old.wiring }
     {
-        let router = self.wiring.to[line];
+        let router = self.wiring.to(line.number()).unwrap();
         self.stages.untell(line, label);
         self.tidy(router, label);
     }
 
     // Brings a router's label for a FEC up to date, given whether it may bind the FEC.
-    pub fn refresh(&mut self, may: bool, router: usize, fec: u32)
-        requires { router < 16 }
+    pub fn refresh(&mut self, may: bool, router: Router, fec: u32)
         ensures refreshed { (independent : Bool) (S : Shape) (t : Tables) → Wired self.old.wiring S
             → may_bind independent router fec (labelled self.old t) ≡ may
             → labelled self.new t ≡ refresh independent S router fec (labelled self.old t) }
         ensures kept { self.new.wiring ≡ self.old.wiring }
     {
-        let bound = self.bound_label(router, fec);
-        if may {
-            self.keep(router, fec, bound);
-        } else {
-            self.let_go(router, fec, bound);
-        }
-    }
-
-    // A FEC that a router may bind gets a label, unless one is bound.
-    fn keep(&mut self, router: usize, fec: u32, bound: Option<usize>)
-        requires { router < 16 }
-        ensures granted { (S : Shape) (t : Tables) → Wired self.old.wiring S
-            → labelled self.new t
-            ≡ grant S router fec bound (free_label router (labelled self.old t)) (labelled self.old t) }
-        ensures kept { self.new.wiring ≡ self.old.wiring }
-    {
-        match bound {
-            Some(_) => {}
-            None => self.bind_first(router, fec),
-        }
-    }
-
-    // A FEC that a router may not bind loses the label that is bound.
-    fn let_go(&mut self, router: usize, fec: u32, bound: Option<usize>)
-        requires router { router < 16 }
-        requires within { Within bound }
-        ensures gone { (S : Shape) (t : Tables) → Wired self.old.wiring S
-            → labelled self.new t ≡ let_go S router fec bound (labelled self.old t) }
-        ensures kept { self.new.wiring ≡ self.old.wiring }
-    {
-        match bound {
-            Some(label) => self.unbind(router, fec, label),
-            None => {}
+        match (may, self.bound_label(router.number(), fec)) {
+            (true, None) => self.bind_first(router, fec),
+            (false, Some(label)) => self.unbind(router, fec, label),
+            _ => {}
         }
     }
 
     // The smallest free label of a router, if there is one, is bound to a FEC, and a mapping of it falls due.
-    fn bind_first(&mut self, router: usize, fec: u32)
-        requires { router < 16 }
+    fn bind_first(&mut self, router: Router, fec: u32)
         ensures bound { (S : Shape) (t : Tables) → Wired self.old.wiring S
             → labelled self.new t
             ≡ grant S router fec None (free_label router (labelled self.old t)) (labelled self.old t) }
         ensures kept { self.new.wiring ≡ self.old.wiring }
     {
-        match self.pool.take(router) {
-            Some(granted) => {
-                let label = granted.label();
-                self.pool.bind(granted, fec);
-                self.stages.tell(&self.wiring, router, label, News::Binds);
-            }
-            None => {}
+        if let Some(granted) = self.pool.take(router) {
+            let label = granted.label();
+            self.pool.bind(granted, fec);
+            self.stages
+                .tell(&self.wiring, router, label, |_| Stage::MappingDue);
         }
     }
 
     // A label that is bound to a FEC leaves it, and a withdraw falls due where it was told.
-    fn unbind(&mut self, router: usize, fec: u32, label: usize)
-        requires router { router < 16 }
-        requires least { 16 ≤ label }
-        requires most { label < 80 }
+    fn unbind(&mut self, router: Router, fec: u32, label: Label)
         ensures unbound { (S : Shape) (t : Tables) → Wired self.old.wiring S
             → labelled self.new t ≡ unbind S router fec label (labelled self.old t) }
         ensures kept { self.new.wiring ≡ self.old.wiring }
     {
         self.pool.leave(router, label, fec);
-        self.stages.tell(&self.wiring, router, label, News::Leaves);
-        self.tidy(router, label);
+        self.stages.tell(&self.wiring, router, label, Stage::fallen);
+        self.tidy(router.number(), label);
     }
 
     // A leaving label becomes free once it is done with on all lines into its router.
-    fn tidy(&mut self, router: usize, label: usize)
+    fn tidy(&mut self, router: usize, label: Label)
         ensures tidied { (S : Shape) (t : Tables) → Wired self.old.wiring S
             → labelled self.new t ≡ tidy S router label (labelled self.old t) }
         ensures kept { self.new.wiring ≡ self.old.wiring }
     {
         if self.is_done(router, label) {
-            self.pool.free(router, label);
+            self.pool.free(Router::new(router).unwrap(), label);
         }
     }
 
     // Whether a label is leaving, and nothing is left to tell of it.
-    fn is_done(&self, router: usize, label: usize) -> bool
+    fn is_done(&self, router: usize, label: Label) -> bool
         ensures { result ≡ (is_leaving (statuses_of self.now.pool router label)
             && quiet_on self.now.wiring router label (stages_of self.now.stages)) }
     {
-        match self.pool.get(router, label) {
-            Status::Leaving(_) => self.stages.is_quiet(&self.wiring, router, label),
-            _ => false,
-        }
+        let label = label.number();
+        matches!(self.pool.get(router, label), Status::Leaving(_))
+            && self.stages.is_quiet(&self.wiring, router, label)
     }
 }

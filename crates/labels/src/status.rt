@@ -1,9 +1,9 @@
-// What a router has a label for, and tests of it.
+// What a router has a label for.
 ghost use Rattle.std.specs.Prelude.{◌≡◌};
 ghost use Rattle.model.specs.Tables.{fec_of};
-ghost use Rattle.labels.specs.Pools.{status_of, fits};
+ghost use Rattle.labels.specs.Pools.{status_of};
 
-#[derive(Clone, Copy)]
+#[derive(Clone, Copy, PartialEq, Eq, Debug)]
 pub enum Status {
     Free,
     // granted, and not yet bound or given back
@@ -14,35 +14,14 @@ pub enum Status {
     Leaving(u32),
 }
 
-// What a search of a router's pool is for.
-#[derive(Clone, Copy)]
-pub(crate) enum Sought {
-    // a free label
-    Open,
-    // the label that is bound to a FEC
-    BoundTo(u32),
-}
-
 impl Status {
-    pub(crate) fn fits(self, sought: Sought) -> bool
-        ensures { result ≡ fits sought self }
-    {
-        match (sought, self) {
-            (Sought::Open, Status::Free) => true,
-            (Sought::BoundTo(fec), Status::Bound(own)) => own == fec,
-            _ => false,
-        }
-    }
-
     // The FEC that a label is bound to or leaving, else 0.
     pub fn fec(self) -> u32
         ensures { result ≡ fec_of (status_of self) }
     {
         match self {
-            Status::Free => 0,
-            Status::Taken => 0,
-            Status::Bound(fec) => fec,
-            Status::Leaving(fec) => fec,
+            Status::Free | Status::Taken => 0,
+            Status::Bound(fec) | Status::Leaving(fec) => fec,
         }
     }
 }

@@ -4,8 +4,8 @@ ghost use Rattle.std.specs.Prelude.{◌≡◌, ◌≤◌};
 #[derive(Clone, Copy)]
 pub struct Wiring {
     pub(crate) lines: usize,
-    pub(crate) from: [usize; 48],
-    pub(crate) to: [usize; 48],
+    // an array with its length beside: a wiring is copied, and made by a function that cannot fail, so it takes no memory
+    pub(crate) ends: [(usize, usize); 48],
     ghost few: { lines ≤ 48 },
 }
 

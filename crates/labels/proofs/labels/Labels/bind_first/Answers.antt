@@ -1,7 +1,6 @@
-use Rattle.std.proofs.Common.{None, sym, refl, ap, ◌∙◌, ap₂}
+use Rattle.std.proofs.Common.{None, sym, refl, ap, ◌∙◌, ap₂, rules}
 use Rattle.model.specs.Tables.{with_labels, on_lines_into, mapping_due, grant}
 use Rattle.labels.specs.declared.status.Status.TheVariants.{Bound}
-use Rattle.labels.specs.Pools.{statuses_of}
 use Rattle.labels.specs.Stagings.{stages_of}
 use Rattle.labels.specs.Reading.{labelled}
 use Rattle.labels.proofs.Settling.{settled_put, statuses_put, taken_put, open_is_free}
@@ -31,19 +30,7 @@ returns-in-Some c =
       bound = λ S t w.
           ap₂ (λ st sg. with_labels st sg t)
           (statuses_put s.pool q r g.label (Bound f) is)
-          (c.tell.ensures S w ∙ ap (λ l. on_lines_into S r l (λ _. mapping_due) (stages_of s.stages)) c.label-label.ensures.is)
+          (c.tell.ensures S (λ _. mapping_due) w (λ x y r. search rules) ∙ ap (λ l. on_lines_into S r l (λ _. mapping_due) (stages_of s.stages)) c.label-label.ensures)
           ∙ ap (λ o. grant S r f None o (labelled s t)) (sym took.1 ∙ open_is_free s.pool r s.settled);
-      kept = refl;
-    }
-
-pub returns-in-None : goal.returns-in-None
-returns-in-None c =
-    let s = c.args.self.now in
-    let took = c.in-None.ensures.takes in
-    record {
-      bound = λ S t w.
-          ap (λ p. with_labels (statuses_of p) (stages_of s.stages) t) took.1
-          ∙ ap (λ o. grant S c.args.router c.args.fec None o (labelled s t))
-          (sym took.0 ∙ open_is_free s.pool c.args.router s.settled);
       kept = refl;
     }

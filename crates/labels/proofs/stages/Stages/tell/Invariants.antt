@@ -1,5 +1,5 @@
 use Rattle.std.proofs.Common.{◌≡◌, ℕ}
-use Rattle.labels.specs.Numbers.{changed}
+use Rattle.labels.specs.Numbers.{Follows}
 use Rattle.labels.specs.Stagings.{stages_of}
 use Rattle.labels.specs.Wirings.{leads_into}
 use Rattle.labels.proofs.Changes.{below}
@@ -7,6 +7,7 @@ use Rattle.labels.proofs.stages.Stages.tell.Given as goal
 
 -- the lines before this one are done
 abbrev pub invariant-loop-line : goal.invariant-loop-line
-invariant-loop-line l =
-    (e k : ℕ) → stages_of l.self e k
-    ≡ below (λ i. leads_into l.wiring i l.router) l.label (changed l.news) (stages_of l.initial.self) l.line e k
+invariant-loop-line g l =
+    (c : ℕ → ℕ) → Follows (goal.F-post g l.news) c
+    → (e k : ℕ) → stages_of l.self e k
+    ≡ below (λ i. leads_into l.wiring i l.router) l.label c (stages_of l.initial.self) l.line e k
