@@ -1,4 +1,3 @@
-pub mod Blanks
-pub mod Places
 pub mod Changes
 pub mod Dues
+pub mod Firsts

@@ -1,44 +1,31 @@
--- What the arrays of routes, remote labels and due releases stand for. Assumes nothing.
-use Rattle.std.specs.Prelude.{ℕ, ◌+◌, ◌-◌, ◌*◌, Bool, false, cond, ◌&&◌, List, Some, None, Option, nat_le, nat_lt, slice_index_or}
+-- What the grids of routes, remote labels and due releases stand for. Assumes nothing.
+use Rattle.std.specs.Prelude.{ℕ, Bool, false, List, Some, None, Option}
 use Rattle.model.specs.Tables.{first_label, is_some, the}
-use Rattle.tables.specs.declared.routes.Sheet.{Sheet}
+use Rattle.grid.specs.Grids.{grid_at}
+use Rattle.labels.specs.Arrays.{by_label}
 use Rattle.tables.specs.declared.routes.Routes.{Routes}
-use Rattle.tables.specs.declared.remotes.Learned.{Learned}
 use Rattle.tables.specs.declared.remotes.Remotes.{Remotes}
 use Rattle.tables.specs.declared.releases.Releases.{Releases}
 
--- an array of n rows with a place for each of 32 FECs; outside it, d
+-- a grid of n rows with a place for each of 32 FECs; outside it, d
 abbrev pub by_fec : {X : Type 0} → ℕ → X → List X → ℕ → ℕ → X
-by_fec n d xs i f = cond (nat_lt i n && nat_lt f 32) (slice_index_or xs (i * 32 + f) d) d
-
--- an array of n rows with a place for each of the labels 16 to 79; outside it, d
-abbrev pub by_label : {X : Type 0} → ℕ → X → List X → ℕ → ℕ → X
-by_label n d xs i l = cond (nat_lt i n && (nat_le 16 l && nat_lt l 80)) (slice_index_or xs (i * 64 + (l - 16)) d) d
-
-abbrev pub owners_in : Sheet → ℕ → ℕ → Bool
-owners_in s = by_fec 16 false s.owner
-
-abbrev pub hops_in : Sheet → ℕ → ℕ → Option ℕ
-hops_in s = by_fec 16 None s.next
+by_fec n d = grid_at n 0 32 d
 
 -- router, FEC: the owner mark
 abbrev pub owners_of : Routes → ℕ → ℕ → Bool
-owners_of s = owners_in s.sheet
+owners_of s = by_fec 16 false s.owner.cells
 
 -- router, FEC: the line of the next hop
 abbrev pub hops_of : Routes → ℕ → ℕ → Option ℕ
-hops_of s = hops_in s.sheet
-
-abbrev pub learned_in : Learned → ℕ → ℕ → Option ℕ
-learned_in s = by_fec 48 None s.at
+hops_of s = by_fec 16 None s.next.cells
 
 -- line, FEC: the remote label
 abbrev pub remotes_of : Remotes → ℕ → ℕ → Option ℕ
-remotes_of s = learned_in s.learned
+remotes_of s = by_fec 48 None s.learned.cells
 
 -- line, label: the FEC of the release that is due
 abbrev pub dues_of : Releases → ℕ → ℕ → Option ℕ
-dues_of s = by_label 48 None s.due
+dues_of s = by_label 48 None s.due.cells
 
 -- the smallest label for which there is something, with it
 abbrev pub with_it : (ℕ → Option ℕ) → Option ℕ → Option (ℕ × ℕ)

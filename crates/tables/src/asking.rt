@@ -4,10 +4,11 @@ ghost use Rattle.model.specs.Tables.{may_bind};
 ghost use Rattle.labels.specs.Pools.{status_of};
 ghost use Rattle.labels.specs.Numbers.{stage_number};
 ghost use Rattle.labels.specs.Wirings.{begin_of, end_of};
-ghost use Rattle.tables.specs.Rows.{is_below, is_real};
+ghost use Rattle.tables.specs.Rows.{is_below};
 ghost use Rattle.tables.specs.Reading.{tables_of};
 
 use crate::tables::Tables;
+use grid::Label;
 use labels::{Stage, Status};
 
 impl Tables {
@@ -27,9 +28,8 @@ impl Tables {
     }
 
     // The label for a FEC that was learned over a line.
-    pub fn remote(&self, line: usize, fec: u32) -> Option<usize>
-        ensures remote { result ≡ (tables_of self.now).remote line fec }
-        ensures real { is_real result ≡ true }
+    pub fn remote(&self, line: usize, fec: u32) -> Option<Label>
+        ensures { result ≡ (tables_of self.now).remote line fec }
     {
         self.remotes.get(line, fec)
     }
@@ -45,13 +45,8 @@ impl Tables {
     pub fn may_bind(&self, router: usize, fec: u32) -> bool
         ensures { result ≡ may_bind self.now.independent router fec (tables_of self.now) }
     {
-        if self.owns(router, fec) {
-            return true;
-        }
-        match self.next_hop(router, fec) {
-            Some(line) => self.independent || self.remote(line, fec).is_some(),
-            None => false,
-        }
+        let over = |line| self.independent || self.remote(line, fec).is_some();
+        self.owns(router, fec) || self.next_hop(router, fec).is_some_and(over)
     }
 
     // What a router has a label for.

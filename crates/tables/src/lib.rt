@@ -3,7 +3,6 @@
 
 pub mod asking;
 pub mod changing;
-pub mod learning;
 pub mod message;
 pub mod releases;
 pub mod remotes;

@@ -1,17 +1,17 @@
 // Which message is due on a line, and the tables once it is sent.
-ghost use Rattle.std.specs.Prelude.{◌≡◌, ◌<◌, true, Some, None};
+ghost use Rattle.std.specs.Prelude.{◌≡◌, ◌<◌, Some, None};
 ghost use Rattle.plant.specs.Plants.{Shape, partner};
 ghost use Rattle.model.specs.Tables.{put2, with_labels, with_remote};
 ghost use Rattle.model.specs.Messages.{next_message};
 ghost use Rattle.labels.specs.Numbers.{stage_number};
 ghost use Rattle.labels.specs.Wirings.{Wired, begin_of};
-ghost use Rattle.tables.specs.Rows.{is_real};
 ghost use Rattle.tables.specs.Reading.{tables_of, Turned};
 ghost use Rattle.tables.specs.Sending.{message_of, after_sent, news_in, first_news};
 
 use crate::message::Message;
 use crate::tables::Tables;
 use frame::Kind;
+use grid::{Label, Line};
 use labels::Stage;
 use plant::partner_of;
 
@@ -21,10 +21,7 @@ impl Tables {
         requires { line < self.now.labels.wiring.lines }
         ensures { begin_of self.now.labels.wiring line ≡ Some result }
     {
-        match self.begin(line) {
-            Some(router) => router,
-            None => unreachable(),
-        }
+        self.begin(line).unwrap()
     }
 
     // News of the smallest label at a stage on the partner of a line, if there is one.
@@ -32,15 +29,9 @@ impl Tables {
         requires { line < self.now.labels.wiring.lines }
         ensures { (S : Shape) → Wired self.now.labels.wiring S → result ≡ news_in S line (tables_of self.now) kind stage }
     {
-        let router = self.beginning(line);
-        match self.labels.first_at(partner_of(line), stage) {
-            None => None,
-            Some(label) => Some(Message {
-                kind,
-                fec: self.labels.fec_of(router, label),
-                label,
-            }),
-        }
+        let label = self.labels.first_at(partner_of(line), stage)?;
+        let fec = self.labels.fec_of(self.beginning(line), label.number());
+        Some(Message { kind, fec, label })
     }
 
     // News of a label on a line: a withdraw comes before a mapping.
@@ -48,10 +39,8 @@ impl Tables {
         requires { line < self.now.labels.wiring.lines }
         ensures { (S : Shape) → Wired self.now.labels.wiring S → result ≡ first_news S line (tables_of self.now) }
     {
-        if let Some(message) = self.news(line, Kind::Withdraw, Stage::WithdrawDue) {
-            return Some(message);
-        }
-        self.news(line, Kind::Mapping, Stage::MappingDue)
+        self.news(line, Kind::Withdraw, Stage::WithdrawDue)
+            .or_else(|| self.news(line, Kind::Mapping, Stage::MappingDue))
     }
 
     // The message that a tell of a line sends: a due release, else a withdraw, else a mapping, the smallest label in each.
@@ -59,38 +48,33 @@ impl Tables {
         requires { line < self.now.labels.wiring.lines }
         ensures { (S : Shape) → Wired self.now.labels.wiring S → result ≡ message_of (next_message S line (tables_of self.now)) }
     {
-        if let Some((label, fec)) = self.releases.first(line) {
-            return Some(Message {
+        self.releases
+            .first(line)
+            .map(|(label, fec)| Message {
                 kind: Kind::Release,
                 fec,
                 label,
-            });
-        }
-        self.first_news(line)
+            })
+            .or_else(|| self.first_news(line))
     }
 
     // A label of the router where a line begins was told over the line.
-    fn told(&mut self, line: usize, label: usize, stage: Stage)
-        requires line { line < 48 }
-        requires label { is_real (Some label) ≡ true }
+    fn told(&mut self, line: Line, label: Label, stage: Stage)
         ensures { Turned self.old (λ t. with_labels t.status (put2 t.stage (partner line) label (stage_number stage)) t) self.new }
     {
-        self.labels.set_stage(partner_of(line), label, stage);
+        let back = Line::new(partner_of(line.number())).unwrap();
+        self.labels.set_stage(back, label, stage);
     }
 
     // A release was sent on a line.
-    fn paid(&mut self, line: usize, label: usize)
-        requires line { line < 48 }
-        requires label { is_real (Some label) ≡ true }
+    fn paid(&mut self, line: Line, label: Label)
         ensures { Turned self.old (λ t. with_remote t.remote (put2 t.due line label None) t) self.new }
     {
         self.releases.set(line, label, None);
     }
 
     // A message was sent on a line, and is no longer due.
-    pub fn sent(&mut self, line: usize, message: Message)
-        requires line { line < 48 }
-        requires label { is_real (Some message.label) ≡ true }
+    pub fn sent(&mut self, line: Line, message: Message)
         ensures { Turned self.old (λ t. after_sent line message t) self.new }
     {
         match message.kind {
