@@ -1,20 +1,19 @@
 -- The calls that touch the plant, put together. Assumes nothing.
-use Rattle.std.proofs.Common.{◌≡◌, ℕ, ◌<◌, false, [], ◌∷◌, ◌++◌, length, Some, None, sym, refl, ap, ◌∙◌, subst}
+use Rattle.std.proofs.Common.{◌≡◌, ℕ, false, [], ◌∷◌, ◌++◌, length, None, sym, refl, ap, ◌∙◌, subst}
 use Rattle.frame.specs.Frames.{FrameValue}
 use Rattle.plant.specs.Plants.{PlantValue}
 use Rattle.plant.specs.Futures.{Turn, handed}
 use Rattle.lookup.specs.declared.address.Address.{Address}
-use Rattle.lookup.specs.Plans.{policy_of, routers_of}
 use Rattle.model.specs.declared.met.Met.{Met}
 use Rattle.model.specs.Packets as packets
 use Rattle.model.specs.Calls.{done, polled, inject, poll, record_of, inject_refusal, entry_verdict, end_by, send_by, arriving, polling, only}
 use Rattle.model.specs.History.{Did, Turns, Sending}
 use Rattle.model.proofs.Citing.{did_act, did_poll}
-use Rattle.labels.specs.Wirings.{Wired, end_of}
+use Rattle.labels.specs.Wirings.{Wired}
 use Rattle.tables.specs.Reading.{tables_of}
 use Rattle.book.specs.Books.{book_of}
 use Rattle.network.specs.declared.routers.Routers.{Routers}
-use Rattle.network.specs.Networks.{is_independent, plan_of, state_of, wiring_of, Fits, Keeps}
+use Rattle.network.specs.Networks.{plan_of, state_of, wiring_of, Fits, Keeps}
 use Rattle.network.specs.Dealing.{Dealt, Seen, arrival_of}
 use Rattle.network.proofs.Citing.{runs}
 
@@ -26,14 +25,7 @@ keeps_then a b = record {
 }
 
 pub fits_then : (n n' : Routers) (v w : PlantValue) → Fits n v → Keeps n n' → w.shape ≡ v.shape → Fits n' w
-fits_then n n' v w f k q = record {
-  steady = record {
-    policy = k.tables.policy ∙ f.steady.policy ∙ ap (λ p. is_independent (policy_of p)) (sym k.plan);
-    lines = k.tables.lines ∙ f.steady.lines ∙ sym (ap (λ x. x.lines) k.tables.wiring);
-    inside = λ h e r d. subst (λ p. r < routers_of p) (sym k.plan) (f.steady.inside (sym k.still ∙ h) e r (subst (λ x. end_of x e ≡ Some r) k.tables.wiring d));
-  };
-  wired = subst (λ x. Wired x w.shape) (sym k.tables.wiring) (subst (Wired (wiring_of n)) (sym q) f.wired);
-}
+fits_then n n' v w f k q = subst (λ x. Wired x w.shape) (sym k.tables.wiring) (subst (Wired (wiring_of n)) (sym q) f)
 
 -- a packet came in as number p and was dealt with
 pub injected : (n n₁ n₂ : Routers) (v w : PlantValue) (r : ℕ) (a : Address) (ttl p : ℕ) (y : packets.Verdict) → n.still ≡ false

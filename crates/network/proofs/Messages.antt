@@ -1,28 +1,16 @@
 -- What a message that comes makes of the routers. Assumes nothing.
-use Rattle.std.proofs.Common.{◌≡◌, ℕ, ◌<◌, Bool, true, false, Some, sym, refl, subst, arith}
+use Rattle.std.proofs.Common.{◌≡◌, ℕ, Bool, true, false, sym, refl, subst}
 use Rattle.plant.specs.Plants.{PlantValue}
 use Rattle.lookup.specs.declared.address.Address.{Address}
 use Rattle.model.specs.declared.met.Met.TheVariants.{Message, Stray}
 use Rattle.model.specs.Tables.{Tables}
 use Rattle.model.specs.Calls.{Effect, polled, retabled, else_stray}
-use Rattle.labels.specs.Wirings.{end_of}
 use Rattle.tables.specs.Reading.{tables_of}
 use Rattle.book.specs.Books.{book_of}
 use Rattle.network.specs.declared.routers.Routers.{Routers}
-use Rattle.network.specs.Networks.{state_of, wiring_of, Keeps, Fits}
+use Rattle.network.specs.Networks.{state_of, Keeps}
 use Rattle.network.specs.Dealing.{Took}
 use Rattle.network.proofs.Citing.{keeps_all}
-
--- three arguments change
-pub same₃ : {A B C D : Type 0} (F : A → B → C → D) {a a' : A} {b b' : B} {c c' : C} → a ≡ a' → b ≡ b' → c ≡ c' → F a b c ≡ F a' b' c'
-same₃ F p q r = λ i. F (p i) (q i) (r i)
-
--- the router where a line ends is the plant's
-pub same_end : (n : Routers) (v : PlantValue) → Fits n v → (e r : ℕ) → e < (wiring_of n).lines → end_of (wiring_of n) e ≡ Some r → r ≡ (v.shape.line e).to
-same_end n v fits e r lt q =
-    let lines = fits.wired.lines in
-    let to = fits.wired.to e (omega arith) in
-    cc (q, to)
 
 module _ (n : Routers) (v : PlantValue) (e : ℕ) (b : Bool) where
   pub took_stray : (k : Effect Address) → b ≡ false → Took n (else_stray b e k (state_of n v)) (polled Stray e) n

@@ -1,5 +1,8 @@
 -- A network at its start. Assumes nothing.
-use Rattle.std.proofs.Common.{◌≡◌, ℕ, ◌<◌, ◌≤◌, Bool, true, false, ◌||◌, ltb, leb, length, get_or, Some, None, Option, sym, refl, ⊎_elim, arith}
+use Rattle.std.proofs.Common.{◌≡◌, ℕ, ◌<◌, ◌≤◌, Bool, true, false, ◌||◌, ltb, leb, length, get_or, Some, None, Option, sym, refl, ap, subst, ⊎_elim, arith}
+use Rattle.std.specs.Bool.{MatchBool}
+use Rattle.std.specs.List.{range_with_len, HoldsAt, AllWithin}
+use Rattle.std.proofs.lemmas.List.FromFn.{length-range_with_len, get_or-range_with_len}
 use Rattle.std.proofs.lemmas.Bool.{cases_eq, cases_lt, cond-false, lt-ltb, le-ltb, leb-false}
 use Rattle.plant.specs.Plants.{PlantValue, total}
 use Rattle.plant.proofs.Sums.{sum_zero, sum_none}
@@ -7,7 +10,7 @@ use Rattle.lookup.specs.declared.plan.Plan.{Plan}
 use Rattle.lookup.specs.Plans.{routers_of}
 use Rattle.model.specs.Tables.{first, is_some}
 use Rattle.model.specs.History.{is_outside, is_still}
-use Rattle.model.proofs.Firsts.{never, first_none}
+use Rattle.model.proofs.Firsts.{never, first_none, first_missing}
 use Rattle.labels.specs.declared.wiring.Wiring.{Wiring}
 use Rattle.labels.specs.Wirings.{Wired, end_of}
 use Rattle.network.specs.Networks.{plan_of}
@@ -17,6 +20,30 @@ busy v e lt some = sym (lt-ltb 0 (total v) (⊎_elim (λ z. absurd (let none = s
 
 pub quiet : (v : PlantValue) → ((e : ℕ) → e < v.shape.lines → length (v.waiting e) ≡ 0) → false ≡ ltb 0 (total v)
 quiet v h = sym (le-ltb 0 (total v) (let z = sum_none (λ l. length (v.waiting l)) v.shape.lines h in omega arith))
+
+-- what `any` tells over the first n numbers
+pub any_below : (n : ℕ) (Yes No : ℕ → Type 0) (r b : Bool)
+    → MatchBool r ((k : ℕ) × (k < length (range_with_len 0 n)) × HoldsAt Yes (range_with_len 0 n) k) (AllWithin No (range_with_len 0 n) 0 (length (range_with_len 0 n)))
+    → ((e : ℕ) → e < n → Yes e → true ≡ b) → (((e : ℕ) → e < n → No e) → false ≡ b) → r ≡ b
+any_below n Yes No true b h here apart =
+    let long = length-range_with_len 0 n in
+    let at = get_or-range_with_len 0 n h.0 0 (omega (arith, h.1)) in
+    here _ (omega (arith, h.1)) (h.2 0)
+any_below n Yes No false b h here apart = apart (λ e lt.
+    let long = length-range_with_len 0 n in
+    let at : get_or (range_with_len 0 n) e 0 ≡ e = omega (arith, get_or-range_with_len 0 n e 0 lt) in
+    subst No at (h e 0 (omega arith) (omega arith)))
+
+module _ (p : ℕ → Bool) (n : ℕ) where
+  pub some_first : (e : ℕ) → e < n → p e ≡ true → true ≡ is_some (first p 0 n)
+  some_first e lt passes = go (first p 0 n) refl
+    where
+      go : (o : Option ℕ) → first p 0 n ≡ o → true ≡ is_some o
+      go None none = absurd (never (let no = first_none p 0 n none e (omega arith) (omega arith) in cc))
+      go (Some l) found = refl
+
+  pub none_first : ((e : ℕ) → e < n → p e ≡ false) → false ≡ is_some (first p 0 n)
+  none_first none = sym (ap is_some (first_missing p 0 n (λ e _ lt. none e (omega arith))))
 
 -- both parts of a test that fails
 or_none : (a b : Bool) → (a || b) ≡ false → (a ≡ false) × (b ≡ false)

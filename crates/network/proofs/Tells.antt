@@ -6,14 +6,16 @@ use Rattle.frame.specs.Numbers.{kind_number}
 use Rattle.frame.specs.Frames.{FrameValue}
 use Rattle.plant.specs.Plants.{PlantValue, Shape}
 use Rattle.plant.specs.Answers.{Sends}
-use Rattle.model.specs.Tables.{Tables, is_label, is_some, first_label}
+use Rattle.lookup.specs.declared.address.Address.{Address}
+use Rattle.model.specs.Tables.{Tables as tables, is_label, is_some, first_label}
 use Rattle.model.specs.Messages.{Due, message, due_or, next_message}
 use Rattle.model.specs.Packets.{is_full}
-use Rattle.model.specs.Calls.{done, tell, tell_refusal, tell_next}
+use Rattle.model.specs.Calls.{State, done, tell, tell_refusal, tell_next}
 use Rattle.model.specs.History.{Did, accepted}
 use Rattle.model.proofs.Firsts.{never, label_some}
 use Rattle.model.proofs.Citing.{did_act}
 use Rattle.tables.specs.declared.message.Message.{Message}
+use Rattle.tables.specs.declared.tables.Tables.{Tables}
 use Rattle.tables.specs.Reading.{tables_of, Turned}
 use Rattle.tables.specs.Sending.{message_of, after_kind, after_sent}
 use Rattle.book.specs.Books.{book_of}
@@ -33,11 +35,11 @@ due_or_lem p g rest m Q here later = go (first_label p) refl
         subst Q same (here l (and_from (leb 16 l) (ltb l 80) (le-leb 16 l in_range.1) (lt-ltb l 80 in_range.2)))
 
 -- it has a label that routers use, and sending it leaves what is said of its kind
-pub record Proper (e : ℕ) (t : Tables) (m : Due) : Type 0 where
+pub record Proper (e : ℕ) (t : tables) (m : Due) : Type 0 where
   pub after : m.after ≡ after_kind m.kind e m.label t
   pub label : is_label m.label ≡ true
 
-pub next_proper : (S : Shape) (e : ℕ) (t : Tables) (m : Due) → next_message S e t ≡ Some m → Proper e t m
+pub next_proper : (S : Shape) (e : ℕ) (t : tables) (m : Due) → next_message S e t ≡ Some m → Proper e t m
 next_proper S e t m q =
     due_or_lem _ _ _ m (Proper e t) (λ l h. record { after = refl; label = h })
     (λ q₂. due_or_lem _ _ _ m (Proper e t) (λ l h. record { after = refl; label = h })
@@ -48,7 +50,7 @@ pub due_message : (o : Option Due) (x : Message) → Some x ≡ message_of o →
 due_message None x q = absurd (never (cc))
 due_message (Some m) x q = (m, refl, cc q)
 
-pub message_real : (S : Shape) (e : ℕ) (t : Tables) (x : Message) → Some x ≡ message_of (next_message S e t) → is_label x.label ≡ true
+pub message_real : (S : Shape) (e : ℕ) (t : tables) (x : Message) → Some x ≡ message_of (next_message S e t) → is_label x.label ≡ true
 message_real S e t x q =
     let due = due_message (next_message S e t) x q in
     ap (λ (y : Message). is_label y.label) due.2 ∙ (next_proper S e t due.0 due.1).label
@@ -80,18 +82,19 @@ module _ (n : Routers) (v : PlantValue) (e : ℕ) (still : n.still ≡ false) wh
         (did_act (plan_of n.plan) (state_of n v) (tell e) refl (on_line None (ap (λ o. cond {A = Option ℕ} (is_some o && is_full v e) (Some 23) None) none)) _ (ap (λ o. tell_next e o (state_of n v)) none)
         (state_of n v) refl refl None (refl, refl))
 
-    pub told : (n' : Routers) (w : PlantValue) (x : Message) (f : FrameValue) (r : Result (Unit {0}) Refusal) → is_full v e ≡ false → Some x ≡ message_of next
-        → f ≡ message x.kind x.fec x.label → Sends v e f r w → Turned n.tables (λ t. after_sent e x t) n'.tables → n'.book ≡ n.book
-        → Did n.still (plan_of n.plan) (state_of n v) (tell e) (done (kind_number x.kind)) (state_of n' w)
-    told n' w x f r room d framed sends turned book =
+    pub told : (t' : Tables) (w : PlantValue) (x : Message) (f : FrameValue) (r : Result (Unit {0}) Refusal) → is_full v e ≡ false → Some x ≡ message_of next
+        → f ≡ message x.kind x.fec x.label → Sends v e f r w → Turned n.tables (λ t. after_sent e x t) t'
+        → Did n.still (plan_of n.plan) (state_of n v) (tell e) (done (kind_number x.kind)) (record { tables = tables_of t'; book = book_of n.book; plant = w })
+    told t' w x f r room d framed sends turned =
         let due = due_message next x d in
         let m = due.0 in
         let t = tables_of n.tables in
+        let after : State Address = record { tables = tables_of t'; book = book_of n.book; plant = w } in
         let proper = next_proper v.shape e t m due.1 in
         let free : tell_refusal v.shape e (state_of n v) ≡ None = on_line None (ap₂ (λ o b. cond {A = Option ℕ} (is_some o && b) (Some 23) None) due.1 room) in
         runs n v (tell e) still
-        (subst (λ y. Did false (plan_of n.plan) (state_of n v) (tell e) (done (kind_number y.kind)) (state_of n' w)) (sym due.2)
-        (did_act (plan_of n.plan) (state_of n v) (tell e) refl free _ (ap (λ o. tell_next e o (state_of n v)) due.1) (state_of n' w)
-        (turned.tables ∙ ap (λ y. after_sent e y t) due.2 ∙ sym proper.after) (ap book_of book)
+        (subst (λ y. Did false (plan_of n.plan) (state_of n v) (tell e) (done (kind_number y.kind)) after) (sym due.2)
+        (did_act (plan_of n.plan) (state_of n v) (tell e) refl free _ (ap (λ o. tell_next e o (state_of n v)) due.1) after
+        (turned.tables ∙ ap (λ y. after_sent e y t) due.2 ∙ sym proper.after) refl
         (accepted r (e, message m.kind m.fec m.label))
         (r, subst (λ z. Sends v e z r w) (framed ∙ ap (λ y. message y.kind y.fec y.label) due.2) sends, refl)))

@@ -1,9 +1,8 @@
 -- Packets and messages in hand. Assumes nothing.
-use Rattle.std.specs.Prelude.{◌≡◌, ℕ, Bool, true, None, Option}
+use Rattle.std.specs.Prelude.{◌≡◌, ℕ, None, Option}
 use Rattle.frame.specs.Frames.{FrameValue}
 use Rattle.plant.specs.Plants.{PlantValue}
 use Rattle.lookup.specs.declared.address.Address.{Address}
-use Rattle.model.specs.Tables.{is_label}
 use Rattle.model.specs.Packets as model
 use Rattle.model.specs.Calls.{Effect, Answer, arriving}
 use Rattle.model.specs.History.{Sending}
@@ -19,12 +18,6 @@ abbrev pub verdict_of : Verdict → model.Verdict
 verdict_of Deliver = model.deliver
 verdict_of (Drop c) = model.drop c
 verdict_of (Forward e l) = model.forward e l
-
--- a label that a packet is forwarded with is one that routers use
-abbrev pub is_sendable : Verdict → Bool
-is_sendable Deliver = true
-is_sendable (Drop c) = true
-is_sendable (Forward e l) = is_label l
 
 -- a packet in hand was dealt with: its end, if this was it, is in the book, and the frame in which it goes on, if it does, was sent
 pub record Dealt (n : Routers) (v : PlantValue) (end : Option model.End) (send : Option (ℕ × FrameValue)) (n' : Routers) (w : PlantValue) : Type 0 where

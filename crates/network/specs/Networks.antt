@@ -1,27 +1,22 @@
 -- What a network of the program stands for in the model. Assumes nothing.
-use Rattle.std.specs.Prelude.{◌≡◌, ℕ, ◌<◌, Bool, true, false, length, Some, None, Ok, Err, Option, Result}
+use Rattle.std.specs.Prelude.{◌≡◌, ℕ, length, Some, None, Ok, Err, Option, Result}
 use Rattle.frame.specs.declared.kind.Kind.{Kind}
 use Rattle.frame.specs.declared.refusal.Refusal.{Refusal}
 use Rattle.frame.specs.Numbers.{refusal_number, kind_number}
 use Rattle.plant.specs.Plants.{PlantValue}
 use Rattle.lookup.specs.declared.address.Address.{Address}
 use Rattle.lookup.specs.declared.plan.Plan.{Plan}
-use Rattle.lookup.specs.declared.plan.Policy.{Policy}
-use Rattle.lookup.specs.declared.plan.Policy.TheVariants.{Ordered, Independent}
 use Rattle.lookup.specs.Plans.{fecs_of, routers_of, policy_of, void_of}
 use Rattle.lookup.specs.Matches.{best_match}
 use Rattle.model.specs.declared.met.Met.{Met}
 use Rattle.model.specs.Calls as model
 use Rattle.model.specs.History.{is_still, fresh_state}
 use Rattle.labels.specs.declared.wiring.Wiring.{Wiring}
-use Rattle.labels.specs.Wirings.{Wired, end_of}
+use Rattle.labels.specs.Wirings.{Wired}
 use Rattle.tables.specs.Reading.{tables_of, Stays}
 use Rattle.book.specs.Books.{book_of}
 use Rattle.network.specs.declared.routers.Routers.{Routers}
-
-abbrev pub is_independent : Policy → Bool
-is_independent Ordered = false
-is_independent Independent = true
+use Rattle.network.specs.Steadiness.{is_independent}
 
 -- the plan in the model's words: its lookup is longest match
 abbrev pub plan_of : Plan → model.Plan Address
@@ -34,16 +29,9 @@ state_of n v = record { tables = tables_of n.tables; book = book_of n.book; plan
 abbrev pub wiring_of : Routers → Wiring
 wiring_of n = n.tables.labels.wiring
 
--- the tables go by the plan's policy and by all lines of the wiring; of a network that runs each of these ends at a router of the plan
-pub record Steady (n : Routers) : Type 0 where
-  pub policy : n.tables.independent ≡ is_independent (policy_of n.plan)
-  pub lines : n.tables.routes.lines ≡ (wiring_of n).lines
-  pub inside : n.still ≡ false → (e r : ℕ) → end_of (wiring_of n) e ≡ Some r → r < routers_of n.plan
-
--- and the wiring is that of the plant
-pub record Fits (n : Routers) (v : PlantValue) : Type 0 where
-  pub steady : Steady n
-  pub wired : Wired (wiring_of n) v.shape
+-- the wiring is that of the plant
+abbrev pub Fits : Routers → PlantValue → Type 0
+Fits n v = Wired (wiring_of n) v.shape
 
 -- what never changes after the start
 pub record Keeps (n n' : Routers) : Type 0 where

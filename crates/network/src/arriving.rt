@@ -1,28 +1,32 @@
 // Messages that come out of a line, and what the router there makes of them.
-ghost use Rattle.std.specs.Prelude.{◌≡◌, ◌<◌, false, ◌&&◌, List, Some, ◌==◌};
+ghost use Rattle.std.specs.Prelude.{◌≡◌, ◌<◌, false, List, Some, IfSome, is_some, nat_eq};
 ghost use Rattle.frame.specs.declared.entry.Entry.{Entry};
 ghost use Rattle.frame.specs.declared.kind.Kind.TheVariants.{Mapping, Withdraw, Release};
-ghost use Rattle.plant.specs.Plants.{PlantValue, partner};
+ghost use Rattle.plant.specs.Plants.{PlantValue};
 ghost use Rattle.model.specs.Tables.{withdrawn};
 ghost use Rattle.model.specs.Packets.{at, is_waiting};
 ghost use Rattle.book.specs.Books.{book_of};
-ghost use Rattle.model.specs.Calls.{in_range, is_this, arriving, polled};
+ghost use Rattle.model.specs.Calls.{in_range, arriving, polled};
 ghost use Rattle.labels.specs.Wirings.{end_of};
 ghost use Rattle.tables.specs.Reading.{tables_of};
-ghost use Rattle.network.specs.Networks.{plan_of, state_of, wiring_of, Steady, Fits};
+ghost use Rattle.network.specs.Networks.{plan_of, state_of, wiring_of, Fits};
 ghost use Rattle.network.specs.Dealing.{Took};
 
 use crate::routers::Routers;
+use grid::{FecNumber, Label, Router};
 use labels::Stage;
 use model::Met;
 use plant::partner_of;
 
 impl Routers {
-    // Whether a message's FEC and label exist.
-    fn in_range(&self, fec: u32, label: u32) -> bool
-        ensures { result ≡ in_range (plan_of self.now.plan) fec label }
+    // The FEC and the label that a message names, if there are such.
+    fn named(&self, fec: u32, label: u32) -> Option<(FecNumber, Label)>
+        ensures in_range { is_some result ≡ in_range (plan_of self.now.plan) fec label }
+        ensures same { IfSome result (λ n. (n.0 ≡ fec) × (n.1 ≡ label)) }
     {
-        (fec as usize) < self.plan.len() && label >= 16 && label < 80
+        let fec = self.fec(fec).ok()?;
+        let label = Label::new(label as usize)?;
+        Some((fec, label))
     }
 
     // Whether there is such a packet, and it has not ended.
@@ -33,89 +37,77 @@ impl Routers {
     }
 
     // The router where a line ends.
-    pub(crate) fn end_of(&self, line: usize) -> usize
-        requires steady { Steady self.now }
+    pub(crate) fn end_of(&self, line: usize) -> Router
         requires runs { self.now.still ≡ false }
         requires line { line < (wiring_of self.now).lines }
-        ensures ends { end_of (wiring_of self.now) line ≡ Some result }
-        ensures router { result < 16 }
+        ensures { end_of (wiring_of self.now) line ≡ Some result }
     {
-        match self.tables.end(line) {
-            Some(router) => router,
-            None => unreachable(),
-        }
+        Router::new(self.tables.end(line).unwrap()).unwrap()
     }
 
     // A mapping came out of a line.
     pub(crate) fn mapping(&mut self, line: usize, fec: u32, label: u32) -> Met
-        requires steady { Steady self.old }
         requires runs { self.old.still ≡ false }
         requires line { line < (wiring_of self.old).lines }
         ensures { (v : PlantValue) (st : List Entry) → Fits self.old v → Took self.old
             (arriving (plan_of self.old.plan) v.shape Mapping line st fec label (state_of self.old v)) (polled result line) self.new }
     {
-        if !self.in_range(fec, label) {
+        let Some((fec, label)) = self.named(fec, label) else {
             return Met::Stray;
-        }
+        };
         let router = self.end_of(line);
-        self.tables
-            .learn(partner_of(line), router, fec, label as usize);
+        self.tables.learn(
+            partner_of(line),
+            router.number(),
+            fec.number() as u32,
+            label.number(),
+        );
         Met::Message
     }
 
-    // Whether a withdraw names the label that is known.
-    fn is_known(&self, line: usize, fec: u32, label: u32) -> bool
-        ensures { result ≡ (in_range (plan_of self.now.plan) fec label && is_this ((tables_of self.now.tables).remote (partner line) fec) label) }
-    {
-        if !self.in_range(fec, label) {
-            return false;
-        }
-        match self.tables.remote(partner_of(line), fec) {
-            Some(known) => known == label as usize,
-            None => false,
-        }
-    }
-
-    // A withdraw came out of a line.
+    // A withdraw came out of a line. It names the label that is known.
     pub(crate) fn withdraw(&mut self, line: usize, fec: u32, label: u32) -> Met
-        requires steady { Steady self.old }
         requires runs { self.old.still ≡ false }
         requires line { line < (wiring_of self.old).lines }
         ensures { (v : PlantValue) (st : List Entry) → Fits self.old v → Took self.old
             (arriving (plan_of self.old.plan) v.shape Withdraw line st fec label (state_of self.old v)) (polled result line) self.new }
     {
-        if !self.is_known(line, fec, label) {
+        let Some((fec, label)) = self.named(fec, label) else {
+            return Met::Stray;
+        };
+        if self.tables.remote(partner_of(line), fec.number() as u32) != Some(label.number()) {
             return Met::Stray;
         }
         let router = self.end_of(line);
-        self.tables
-            .unlearn(partner_of(line), router, fec, label as usize);
+        self.tables.unlearn(
+            partner_of(line),
+            router.number(),
+            fec.number() as u32,
+            label.number(),
+        );
         Met::Message
     }
 
-    // Whether a release is awaited.
-    fn is_awaited(&self, line: usize, fec: u32, label: u32) -> bool
-        ensures { result ≡ (in_range (plan_of self.now.plan) fec label && (tables_of self.now.tables).stage line label == withdrawn) }
+    // Whether a release of a label is awaited on a line.
+    fn is_awaited(&self, line: usize, label: Label) -> bool
+        ensures { result ≡ nat_eq ((tables_of self.now.tables).stage line label) withdrawn }
     {
-        if !self.in_range(fec, label) {
-            return false;
-        }
-        match self.tables.stage(line, label as usize) {
-            Stage::Withdrawn => true,
-            _ => false,
-        }
+        matches!(self.tables.stage(line, label.number()), Stage::Withdrawn)
     }
 
-    // A release came out of a line.
+    // A release came out of a line. It is awaited.
     pub(crate) fn release(&mut self, line: usize, fec: u32, label: u32) -> Met
         requires line { line < (wiring_of self.old).lines }
         ensures { (v : PlantValue) (st : List Entry) → Fits self.old v → Took self.old
             (arriving (plan_of self.old.plan) v.shape Release line st fec label (state_of self.old v)) (polled result line) self.new }
     {
-        if !self.is_awaited(line, fec, label) {
+        let Some((_, label)) = self.named(fec, label) else {
+            return Met::Stray;
+        };
+        if !self.is_awaited(line, label) {
             return Met::Stray;
         }
-        self.tables.released(line, label as usize);
+        self.tables.released(line, label.number());
         Met::Message
     }
 }

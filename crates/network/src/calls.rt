@@ -2,11 +2,11 @@
 ghost use Rattle.std.specs.Prelude.{◌≡◌};
 ghost use Rattle.model.specs.Calls.{own, route, inject, tell, poll};
 ghost use Rattle.model.specs.History.{Did};
-ghost use Rattle.network.specs.Networks.{plan_of, state_of, Fits, Keeps, own_answer, inject_answer, tell_answer, poll_answer};
+ghost use Rattle.network.specs.Networks.{plan_of, state_of, Keeps, own_answer, inject_answer, tell_answer, poll_answer};
 
-use crate::frames::{message_frame, no_frame};
+use crate::frames::message_frame;
 use crate::network::Network;
-use frame::{Kind, Refusal};
+use frame::{Frame, Kind, Refusal};
 use lookup::Address;
 use model::Met;
 use plant::{Outcome, Plant};
@@ -14,8 +14,6 @@ use plant::{Outcome, Plant};
 impl<P: Plant> Network<P> {
     // Sets or takes off a router's owner mark for a FEC.
     pub fn own(&mut self, router: usize, fec: u32, mark: usize) -> Result<(), Refusal>
-        requires { P.Plant.sound self.old.plant × Fits self.old.routers (P.Plant.value self.old.plant) }
-        ensures sound { P.Plant.sound self.new.plant × Fits self.new.routers (P.Plant.value self.new.plant) }
         ensures keeps { Keeps self.old.routers self.new.routers }
         ensures did { Did self.old.routers.still (plan_of self.old.routers.plan)
             (state_of self.old.routers (P.Plant.value self.old.plant)) (own router fec mark) (own_answer result)
@@ -26,8 +24,6 @@ impl<P: Plant> Network<P> {
 
     // Sets a router's next hop for a FEC, or takes it away.
     pub fn route(&mut self, router: usize, fec: u32, line: Option<usize>) -> Result<(), Refusal>
-        requires { P.Plant.sound self.old.plant × Fits self.old.routers (P.Plant.value self.old.plant) }
-        ensures sound { P.Plant.sound self.new.plant × Fits self.new.routers (P.Plant.value self.new.plant) }
         ensures keeps { Keeps self.old.routers self.new.routers }
         ensures did { Did self.old.routers.still (plan_of self.old.routers.plan)
             (state_of self.old.routers (P.Plant.value self.old.plant)) (route router fec line) (own_answer result)
@@ -38,38 +34,28 @@ impl<P: Plant> Network<P> {
 
     // Takes a packet in at a router, and answers its number.
     pub fn inject(&mut self, router: usize, address: Address, ttl: usize) -> Result<usize, Refusal>
-        requires { P.Plant.sound self.old.plant × Fits self.old.routers (P.Plant.value self.old.plant) }
-        ensures sound { P.Plant.sound self.new.plant × Fits self.new.routers (P.Plant.value self.new.plant) }
         ensures keeps { Keeps self.old.routers self.new.routers }
         ensures did { Did self.old.routers.still (plan_of self.old.routers.plan)
             (state_of self.old.routers (P.Plant.value self.old.plant)) (inject router address ttl) (inject_answer result)
             (state_of self.new.routers (P.Plant.value self.new.plant)) }
     {
-        if self.routers.still {
-            return Err(Refusal::Unfit);
-        }
-        if let Some(refusal) = self.routers.inject_refusal(router, ttl) {
-            return Err(refusal);
-        }
+        self.routers.runs()?;
+        let hand = self.routers.parse_inject(router, ttl)?;
         let fec = self.routers.fec_of(address);
-        let verdict = self.entry_verdict(router, ttl as u8, fec);
-        let packet = self.routers.enter(router, address, ttl as u8, fec);
-        self.deal(packet as u32, router, ttl as u8, verdict);
+        let verdict = self.entry_verdict(hand, fec);
+        let packet = self.routers.enter(hand, address, fec);
+        self.deal(packet as u32, hand, verdict);
         Ok(packet)
     }
 
     // Sends one message that is due on a line, and answers its kind; none if none is due.
     pub fn tell(&mut self, line: usize) -> Result<Option<Kind>, Refusal>
-        requires { P.Plant.sound self.old.plant × Fits self.old.routers (P.Plant.value self.old.plant) }
-        ensures sound { P.Plant.sound self.new.plant × Fits self.new.routers (P.Plant.value self.new.plant) }
         ensures keeps { Keeps self.old.routers self.new.routers }
         ensures did { Did self.old.routers.still (plan_of self.old.routers.plan)
             (state_of self.old.routers (P.Plant.value self.old.plant)) (tell line) (tell_answer result)
             (state_of self.new.routers (P.Plant.value self.new.plant)) }
     {
-        if self.routers.still {
-            return Err(Refusal::Unfit);
-        }
+        self.routers.runs()?;
         if line >= self.plant.lines() {
             return Err(Refusal::NoLine);
         }
@@ -86,17 +72,13 @@ impl<P: Plant> Network<P> {
 
     // Polls a port of the plant, and lets the router at the end of the line see to a frame that comes out.
     pub fn poll(&mut self, port: usize) -> Result<(Met, usize), Refusal>
-        requires { P.Plant.sound self.old.plant × Fits self.old.routers (P.Plant.value self.old.plant) }
-        ensures sound { P.Plant.sound self.new.plant × Fits self.new.routers (P.Plant.value self.new.plant) }
         ensures keeps { Keeps self.old.routers self.new.routers }
         ensures did { Did self.old.routers.still (plan_of self.old.routers.plan)
             (state_of self.old.routers (P.Plant.value self.old.plant)) (poll port) (poll_answer result)
             (state_of self.new.routers (P.Plant.value self.new.plant)) }
     {
-        if self.routers.still {
-            return Err(Refusal::Unfit);
-        }
-        let mut place = no_frame();
+        self.routers.runs()?;
+        let mut place = Frame::default();
         let (outcome, line) = self.plant.poll(port, &mut place);
         match outcome {
             Outcome::Idle => Ok((Met::Idle, 0)),

@@ -5,6 +5,7 @@ ghost use Rattle.book.specs.Books.{book_of};
 ghost use Rattle.tables.specs.Rows.{is_below};
 ghost use Rattle.network.specs.Networks.{plan_of, Keeps};
 
+use crate::hand::InHand;
 use crate::routers::Routers;
 use book::Record;
 use lookup::Address;
@@ -20,27 +21,21 @@ impl Routers {
     }
 
     // Writes the record of a packet that comes in, and answers its number.
-    pub(crate) fn enter(
-        &mut self,
-        router: usize,
-        address: Address,
-        ttl: u8,
-        fec: Option<usize>,
-    ) -> usize
+    pub(crate) fn enter(&mut self, hand: InHand, address: Address, fec: Option<usize>) -> usize
         requires room { length (book_of self.old.book) < 512 }
         requires fec { fec ≡ (plan_of self.old.plan).lookup address }
         ensures number { result ≡ length (book_of self.old.book) }
         ensures few { result < 512 }
-        ensures book { book_of self.new.book ≡ book_of self.old.book ++ record_of (plan_of self.old.plan) result router address ttl ∷ [] }
+        ensures book { book_of self.new.book ≡ book_of self.old.book ++ record_of (plan_of self.old.plan) result hand.router address hand.ttl ∷ [] }
         ensures tables { self.new.tables ≡ self.old.tables }
         ensures keeps { Keeps self.old self.new }
     {
         let number = self.book.len();
         let packet = Record {
             number,
-            ingress: router,
+            ingress: hand.router,
             address,
-            ttl,
+            ttl: hand.ttl,
             fec,
             fate: Fate::Waiting,
             router: None,

@@ -6,17 +6,8 @@ ghost use Rattle.model.specs.Messages.{message as message_value};
 ghost use Rattle.model.specs.Packets.{data_frame};
 
 use frame::{Entry, Frame, Kind, Stack};
+use grid::Label;
 use tables::Message;
-
-// A frame for a place that nothing was written to.
-pub(crate) fn no_frame() -> Frame {
-    Frame {
-        kind: Kind::Data,
-        stack: Stack::new(),
-        a: 0,
-        b: 0,
-    }
-}
 
 // The frame of a message.
 pub(crate) fn message_frame(message: Message) -> Frame
@@ -32,13 +23,12 @@ pub(crate) fn message_frame(message: Message) -> Frame
 }
 
 // The frame of a packet.
-pub(crate) fn data_frame(packet: u32, label: usize, ttl: u8) -> Frame
-    requires { is_label label ≡ true }
+pub(crate) fn data_frame(packet: u32, label: Label, ttl: u8) -> Frame
     ensures { frame_value result ≡ data_frame packet label ttl }
 {
     let mut stack = Stack::new();
     let _ = stack.push(Entry {
-        label: label as u32,
+        label: label.number() as u32,
         tc: 0,
         ttl,
     });

@@ -7,6 +7,7 @@ pub mod calls;
 mod dealing;
 mod entering;
 mod frames;
+mod hand;
 pub mod network;
 mod refusals;
 pub mod routers;

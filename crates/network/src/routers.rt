@@ -1,4 +1,6 @@
 // What a network holds beside its plant.
+ghost use Rattle.network.specs.Steadiness.{Steady};
+
 use book::Book;
 use lookup::{Address, Plan};
 use tables::Tables;
@@ -10,4 +12,5 @@ pub struct Routers {
     pub(crate) still: bool,
     pub(crate) tables: Tables,
     pub(crate) book: Book<Address>,
+    ghost steady: { Steady plan still tables },
 }

@@ -4,9 +4,10 @@ ghost use Rattle.frame.specs.declared.kind.Kind.TheVariants.{Data};
 ghost use Rattle.frame.specs.Stacks.{entries_of};
 ghost use Rattle.frame.specs.Frames.{frame_value};
 ghost use Rattle.model.specs.Calls.{top_ttl, arriving, polled};
-ghost use Rattle.network.specs.Networks.{plan_of, state_of, Fits};
+ghost use Rattle.network.specs.Networks.{plan_of, state_of};
 ghost use Rattle.network.specs.Dealing.{Seen, arrival_of};
 
+use crate::hand::InHand;
 use crate::network::Network;
 use frame::{Frame, Kind, Stack};
 use model::Met;
@@ -16,20 +17,14 @@ use plant::Plant;
 fn top_ttl(stack: &Stack) -> u8
     ensures { result ≡ top_ttl (entries_of stack.now) }
 {
-    match stack.top() {
-        Some(entry) => entry.ttl,
-        None => 0,
-    }
+    stack.top().map_or(0, |entry| entry.ttl)
 }
 
 impl<P: Plant> Network<P> {
     // A packet came out of a line.
     fn packet(&mut self, line: usize, packet: u32, stack: &Stack) -> Met
-        requires sound { P.Plant.sound self.old.plant }
-        requires fits { Fits self.old.routers (P.Plant.value self.old.plant) }
         requires runs { self.old.routers.still ≡ false }
         requires line { line < (P.Plant.value self.old.plant).shape.lines }
-        ensures sound { P.Plant.sound self.new.plant }
         ensures seen { (b : ℕ) → Seen self.old.routers (P.Plant.value self.old.plant)
             (arriving (plan_of self.old.routers.plan) (P.Plant.value self.old.plant).shape Data line (entries_of stack.now) packet b
             (state_of self.old.routers (P.Plant.value self.old.plant))) (polled result line)
@@ -38,19 +33,17 @@ impl<P: Plant> Network<P> {
         if !self.routers.awaits(packet) {
             return Met::Stray;
         }
-        let router = self.routers.end_of(line);
+        let router = self.routers.end_of(line).number();
         let verdict = self.stack_verdict(router, stack);
-        self.deal(packet, router, top_ttl(stack), verdict);
+        let ttl = top_ttl(stack);
+        self.deal(packet, InHand { router, ttl }, verdict);
         Met::Packet
     }
 
     // A frame came out of a line.
     pub(crate) fn arrive(&mut self, line: usize, frame: &Frame) -> Met
-        requires sound { P.Plant.sound self.old.plant }
-        requires fits { Fits self.old.routers (P.Plant.value self.old.plant) }
         requires runs { self.old.routers.still ≡ false }
         requires line { line < (P.Plant.value self.old.plant).shape.lines }
-        ensures sound { P.Plant.sound self.new.plant }
         ensures seen { Seen self.old.routers (P.Plant.value self.old.plant)
             (arrival_of self.old.routers (P.Plant.value self.old.plant) line (frame_value frame.now)) (polled result line)
             self.new.routers (P.Plant.value self.new.plant) }

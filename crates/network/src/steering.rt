@@ -3,25 +3,20 @@ ghost use Rattle.std.specs.Prelude.{◌≡◌};
 ghost use Rattle.plant.specs.Plants.{PlantValue};
 ghost use Rattle.model.specs.Calls.{own, route};
 ghost use Rattle.model.specs.History.{Did};
-ghost use Rattle.network.specs.Networks.{plan_of, state_of, Steady, Fits, Keeps, own_answer};
+ghost use Rattle.network.specs.Networks.{plan_of, state_of, Fits, Keeps, own_answer};
 
 use crate::routers::Routers;
 use frame::Refusal;
 
 impl Routers {
     pub(crate) fn own(&mut self, router: usize, fec: u32, mark: usize) -> Result<(), Refusal>
-        requires { Steady self.old }
         ensures did { (v : PlantValue) → Fits self.old v → Did self.old.still (plan_of self.old.plan)
             (state_of self.old v) (own router fec mark) (own_answer result) (state_of self.new v) }
         ensures keeps { Keeps self.old self.new }
     {
-        if self.still {
-            return Err(Refusal::Unfit);
-        }
-        if let Some(refusal) = self.own_refusal(router, fec, mark) {
-            return Err(refusal);
-        }
-        self.tables.own(router, fec, mark == 1);
+        self.runs()?;
+        let (router, fec, on) = self.parse_own(router, fec, mark)?;
+        self.tables.own(router.number(), fec.number() as u32, on);
         Ok(())
     }
 
@@ -31,18 +26,14 @@ impl Routers {
         fec: u32,
         line: Option<usize>,
     ) -> Result<(), Refusal>
-        requires { Steady self.old }
         ensures did { (v : PlantValue) → Fits self.old v → Did self.old.still (plan_of self.old.plan)
             (state_of self.old v) (route router fec line) (own_answer result) (state_of self.new v) }
         ensures keeps { Keeps self.old self.new }
     {
-        if self.still {
-            return Err(Refusal::Unfit);
-        }
-        if let Some(refusal) = self.route_refusal(router, fec, line) {
-            return Err(refusal);
-        }
-        self.tables.route(router, fec, line);
+        self.runs()?;
+        let (router, fec) = self.parse_route(router, fec, line)?;
+        self.tables
+            .route(router.number(), fec.number() as u32, line);
         Ok(())
     }
 }

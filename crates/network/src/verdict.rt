@@ -1,4 +1,5 @@
 // What is to be done with a packet in hand.
+use grid::Label;
 use model::Cause;
 
 #[derive(Clone, Copy)]
@@ -6,5 +7,5 @@ pub enum Verdict {
     Deliver,
     Drop(Cause),
     // over a line, with a label
-    Forward(usize, usize),
+    Forward { line: usize, label: Label },
 }

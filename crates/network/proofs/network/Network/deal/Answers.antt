@@ -7,9 +7,6 @@ pub returns-in-Forward : goal.returns-in-Forward
 returns-in-Forward g c =
     let n = c.args.self.now.routers in
     let v = g.P.Plant.value c.args.self.now.plant in
-    let ttl : c.saturating_sub.result ≡ c.args.ttl - 1 = omega (arith, c.saturating_sub.ensures) in
-    record {
-      sound = c.send.ensures.sound;
-      dealt = forwarded n v (g.P.Plant.value c.send.new.self) c.args.router c.args.packet c.args.ttl c.in-Forward.line c.in-Forward.label
-          c.args.verdict c.in-Forward.is _ (c.data_frame.ensures ∙ ap (data_frame c.args.packet c.in-Forward.label) ttl) c.send.result c.send.ensures.sends;
-    }
+    let ttl : c.saturating_sub.result ≡ c.args.hand.ttl - 1 = omega (arith, c.saturating_sub.ensures) in
+    forwarded n v (g.P.Plant.value c.send.new.self) c.args.hand.router c.args.packet c.args.hand.ttl c.in-Forward.line c.in-Forward.label
+    c.args.verdict c.in-Forward.is _ (c.data_frame.ensures ∙ ap (data_frame c.args.packet c.in-Forward.label) ttl) c.send.result c.send.ensures.sends

@@ -1,33 +1,29 @@
-use Rattle.std.proofs.Common.{eqb, None, sym, refl, ap, ◌∙◌}
+use Rattle.std.proofs.Common.{None, sym, refl, ◌∙◌, rules}
 use Rattle.model.specs.Tables.{put2, refresh, with_routes}
 use Rattle.model.specs.Calls.{own}
 use Rattle.model.proofs.Citing.{did_act}
 use Rattle.tables.specs.Reading.{tables_of}
-use Rattle.network.specs.Networks.{plan_of, state_of}
-use Rattle.network.proofs.Citing.{keeps_all, stands, runs, refuses}
+use Rattle.network.specs.Networks.{plan_of, state_of, own_answer}
+use Rattle.network.proofs.Citing.{stands, going, runs, stops}
 use Rattle.network.proofs.routers.Routers.own.Goals as goal
 
-pub returns-then-self : goal.returns-then-self
-returns-then-self c =
-    let n = c.args.self.now in
-    record { did = λ v _. stands n v (own c.args.router c.args.fec c.args.mark) c.if-self.true; keeps = keeps_all n }
+pub returns-in_err-runs-clause-did : goal.returns-in_err-runs-clause-did
+returns-in_err-runs-clause-did c v _ = stands c.args.self.now v (own c.args.router c.args.fec c.args.mark) own_answer c.from_residual.result _ refl (search rules) c.in_err-runs.ensures
 
-pub returns-in-Some : goal.returns-in-Some
-returns-in-Some c =
+pub returns-in_err-router-clause-did : goal.returns-in_err-router-clause-did
+returns-in_err-router-clause-did c v _ =
     let n = c.args.self.now in
-    record { did = λ v _. refuses n v (own c.args.router c.args.fec c.args.mark) c.if-self.false _ c.in-Some.ensures; keeps = keeps_all n }
+    stops n v (own c.args.router c.args.fec c.args.mark) own_answer c.from_residual-in_err-router.result _ refl (search rules) (going n.still c.in_ok-runs.ensures) c.in_err-router.ensures.refused
 
-pub returns : goal.returns
-returns c =
+pub returns-clause-did : goal.returns-clause-did
+returns-clause-did c v fits =
     let n = c.args.self.now in
-    let r = c.args.router in
-    let f = c.args.fec in
+    let call = own c.args.router c.args.fec c.args.mark in
     let t = tables_of n.tables in
-    let did = c.own.ensures in
-    record {
-      did = λ v fits. runs n v (own r f c.args.mark) c.if-self.false
-          (did_act (plan_of n.plan) (state_of n v) (own r f c.args.mark) refl (sym c.in_default.ensures) _ refl _
-          (did.tables v.shape fits.wired ∙ ap (λ i. refresh i v.shape r f (with_routes (put2 t.owner r f (eqb c.args.mark 1)) t.hop t)) fits.steady.policy)
-          refl None (refl, refl));
-      keeps = record { plan = refl; still = refl; tables = did.stays };
-    }
+    let same = c.in_ok-router.ensures.same in
+    let r = c.number.ensures.same ∙ same.0 in
+    let f = c.number-2.ensures.same ∙ same.1 in
+    runs n v call (going n.still c.in_ok-runs.ensures)
+    (did_act (plan_of n.plan) (state_of n v) call refl (sym c.in_ok-router.ensures.refused) _ refl _
+    (c.own.ensures.tables v.shape fits ∙ (λ i. refresh (n.steady.policy i) v.shape (r i) (f i) (with_routes (put2 t.owner (r i) (f i) (same.2 i)) t.hop t)))
+    refl None (refl, refl))
