@@ -1,10 +1,18 @@
 -- What a table's places say, in the model's words.
-use Rattle.std.proofs.Common.{◌≡◌, ℕ, zero, suc, ◌<◌, ◌≤◌, List, [], ◌∷◌, map, length, refl, ap, ◌∙◌, le_of_suc-le-suc, not-suc-le-zero, arith}
+use Rattle.std.proofs.Common.{◌≡◌, ℕ, zero, suc, ◌<◌, ◌≤◌, List, [], ◌∷◌, map, length, Some, None, Option, refl, ap, ◌∙◌, le_of_suc-le-suc, not-suc-le-zero, arith}
 use Rattle.std.proofs.lemmas.List.{same_lists}
-use Rattle.model.specs.Packets.{End, revise, close}
+use Rattle.model.specs.Packets.{End, at, revise, close}
 use Rattle.book.specs.declared.packet.Record.{Record as Row}
-use Rattle.book.specs.Records.{record_of}
-use Rattle.book.specs.Tables.{Ended}
+use Rattle.book.specs.Records.{record_of, found_of}
+use Rattle.book.specs.Tables.{Found, Ended}
+
+pub found_at : {A : Type 0} (xs : List (Row A)) (p : ℕ) (r : Option (Row A)) → Found xs p r → found_of r ≡ at (map record_of xs) p
+found_at [] p None h = refl
+found_at [] p (Some x) h = absurd (not-suc-le-zero h.0)
+found_at (y ∷ ys) zero None h = absurd (not-suc-le-zero h)
+found_at (y ∷ ys) zero (Some x) h = ap (λ z. Some (record_of z)) h.1
+found_at (y ∷ ys) (suc p) None h = found_at ys p None (le_of_suc-le-suc h)
+found_at (y ∷ ys) (suc p) (Some x) h = found_at ys p (Some x) (le_of_suc-le-suc h.0, h.1)
 
 pub revise_ended : {A : Type 0} (xs : List (Row A)) (p : ℕ) (d : End) (ys : List (Row A)) → p < length xs → Ended xs p d ys
     → map record_of ys ≡ revise (close d) p (map record_of xs)

@@ -6,10 +6,11 @@ use Rattle.model.specs.Tables.{put2}
 use Rattle.grid.specs.Grids.{grid_at}
 use Rattle.grid.proofs.Puts.{places, put2_here, put2_there}
 
-get_or-same : {X : Type 0} (n k : ℕ) (x : X) → get_or (replicate n x) k x ≡ x
-get_or-same zero k x = refl
-get_or-same (suc n) zero x = refl
-get_or-same (suc n) (suc k) x = get_or-same n k x
+-- a list of equal elements has that element at each place, and past its end
+pub get_or_blank : {X : Type 0} (k i : ℕ) (d : X) → get_or (replicate k d) i d ≡ d
+get_or_blank zero i d = refl
+get_or_blank (suc k) zero d = refl
+get_or_blank (suc k) (suc i) d = get_or_blank k i d
 
 either_same : {X : Type 0} (b : Bool) (y x : X) → y ≡ x → cond b y x ≡ x
 either_same true y x e = e
@@ -18,7 +19,7 @@ either_same false y x e = refl
 pub grid_at-filled : {X : Type 0} (rows first end n : ℕ) (x : X) → grid_at rows first end x (replicate n x) ≡ (λ _ _. x)
 grid_at-filled rows first end n x = λ j a b.
     either_same (ltb a rows && (leb first b && ltb b end)) (get_or (replicate n x) (a * (end - first) + (b - first)) x) x
-    (get_or-same n (a * (end - first) + (b - first)) x) j
+    (get_or_blank n (a * (end - first) + (b - first)) x) j
 
 module _ {X : Type 0} (rows first end : ℕ) (d : X) (xs : List X) (i k : ℕ) (x : X)
     (row : i < rows) (least : first ≤ k) (most : k < end) (room : i * (end - first) + (k - first) < length xs) where

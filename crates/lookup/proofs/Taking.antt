@@ -1,7 +1,7 @@
 -- Looking through a table for a FEC of one kind and length that covers a prefix, and adding one. Assumes nothing.
-use Rattle.std.proofs.Common.{◌≡◌, ℕ, ◌<◌, Bool, true, false, List, [], ◌∷◌, ◌++◌, length, None, sym, refl, ap, ap₂, ◌∙◌, subst, below_more, arith}
+use Rattle.std.proofs.Common.{◌≡◌, ℕ, ◌+◌, ◌<◌, Bool, true, false, ◌||◌, List, [], ◌∷◌, ◌++◌, length, drop, None, sym, refl, ap, ap₂, ◌∙◌, subst, below_more, arith}
 use Rattle.std.proofs.lemmas.List.Folds.{list_any_at}
-use Rattle.std.proofs.lemmas.List.{get_or_append_left, get_or_push, length_push}
+use Rattle.std.proofs.lemmas.List.{drop_more, get_or_append_left, get_or_push, length_push}
 use Rattle.std.proofs.lemmas.Bool.Decides.{nat_tests}
 use Rattle.lookup.specs.declared.address.Address.{Address}
 use Rattle.lookup.specs.declared.address.Address.TheVariants.{V4 as addr4, V6 as addr6}
@@ -9,6 +9,17 @@ use Rattle.lookup.specs.declared.fec.Fec.{Fec}
 use Rattle.lookup.specs.Fecs.{width_of, value_of, fec_of, no_fec}
 use Rattle.lookup.specs.Matches.{fec_at}
 use Rattle.lookup.specs.Tables.{clash, taken, fits, AllFit, Apart, length_refusal}
+
+-- the rest of a table from a place on
+module _ (fs : List Fec) (f : Fec) (i : ℕ) (h : i < length fs) where
+  opened : taken (drop i fs) f ≡ (clash (fec_at fs i) f || taken (drop (i + 1) fs) f)
+  opened = ap (λ xs. taken xs f) (drop_more fs i no_fec h)
+
+  pub taken_here : (r : Bool) → r ≡ clash (fec_at fs i) f → r ≡ true → taken (drop i fs) f ≡ true
+  taken_here r q e = opened ∙ ap (λ b. b || taken (drop (i + 1) fs) f) (sym q ∙ e)
+
+  pub taken_past : (r : Bool) → r ≡ clash (fec_at fs i) f → r ≡ false → taken (drop (i + 1) fs) f ≡ taken (drop i fs) f
+  taken_past r q e = sym (opened ∙ ap (λ b. b || taken (drop (i + 1) fs) f) (sym q ∙ e))
 
 -- what is not taken clashes with none
 no_clash : (fs : List Fec) (f : Fec) (i : ℕ) → i < length fs → taken fs f ≡ false → clash (fec_at fs i) f ≡ false

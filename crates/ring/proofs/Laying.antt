@@ -1,15 +1,17 @@
 -- Rows laid one link after another. Assumes nothing.
-use Rattle.std.proofs.Common.{◌≡◌, ℕ, zero, suc, ◌+◌, ◌*◌, ◌/◌, ◌%◌, ◌<◌, ◌≤◌, Bool, true, false, cond, eqb, ltb, ◌≢◌, List, length, set, replicate, sym, refl, ap, ◌∙◌, subst, ⊎_elim, add-one, arith, length-set, get_or-set_other, get_or-set_same}
+use Rattle.std.proofs.Common.{◌≡◌, ℕ, zero, suc, ◌+◌, ◌*◌, ◌/◌, ◌%◌, ◌<◌, ◌≤◌, Bool, true, false, cond, eqb, ltb, ◌≢◌, List, [], length, set, replicate, sym, refl, ap, ◌∙◌, subst, ⊎_elim, add-one, arith, length-set, get_or-set_other, get_or-set_same}
 use Rattle.std.proofs.lemmas.Bool.{cases_eq, cases_lt, cond-true, cond-false, lt-ltb, le-ltb, eq-eqb, ne_eqb}
 use Rattle.std.proofs.lemmas.List.{get_or_past}
+use Rattle.frame.specs.declared.frame.Frame.{Frame}
 use Rattle.plant.specs.Plants.{Line}
 use Rattle.ring.specs.declared.row.Row.{Row}
 use Rattle.ring.specs.declared.link.Link.{Link}
 use Rattle.ring.specs.Rows.{no_row, row_at, row_line}
-use Rattle.ring.specs.Links.{no_link, link_at, taken, no_line, line_of, bare_shape}
-use Rattle.ring.specs.Order.{RowOk, ring_shape}
+use Rattle.ring.specs.Links.{no_link, link_at, taken, no_line, line_of, bare_shape, link_shape, none_waits}
+use Rattle.ring.specs.Order.{RingOk, RowOk, ring_shape, ring_lists}
 use Rattle.ring.specs.Laid.{Laid}
 use Rattle.ring.proofs.Scans.{LinkOk}
+use Rattle.ring.specs.Steps.{bare, past}
 
 pub taken_more : (links : List Link) (i : ℕ) → taken links (i + 1) ≡ taken links i + 2 * (link_at links i).cap
 taken_more links i = ap (taken links) (add-one i)
@@ -75,6 +77,28 @@ laid_none rows = record {
   partners = λ k lt. absurd (omega arith);
 }
 
+-- rows that are laid within the places make a ring plant
+pub laid_ring : (rows : List Row) (m size : ℕ) (items : List Frame) → Laid rows (2 * m) size → size ≤ length items → 2 * m ≤ 32 → length rows ≡ 32 → RingOk rows (2 * m) items
+laid_ring rows m size items laid fits few wide = record {
+  few = few;
+  wide = omega arith;
+  even = omega arith;
+  row = λ l lt. let o = laid.row l lt in let i = o.inside in record { apart = o.apart; cap_least = o.cap_least; cap_most = o.cap_most; head = o.head; len = o.len; inside = omega arith };
+  tiles = laid.tiles;
+  partners = laid.partners;
+}
+
+-- and no rows at all do
+pub bare_ring : (rows : List Row) (items : List Frame) → RingOk rows 0 items
+bare_ring rows items = record {
+  few = omega arith;
+  wide = omega arith;
+  even = refl;
+  row = λ l lt. absurd (omega arith);
+  tiles = λ k l a lt. absurd (omega arith);
+  partners = λ k lt. absurd (omega arith);
+}
+
 -- the lines of the first i links
 abbrev pub line_to : List Link → ℕ → ℕ → Line
 line_to links i l = cond (ltb (l / 2) i) (line_of links l) no_line
@@ -136,5 +160,17 @@ module _ (links : List Link) (i : ℕ) (rows : List Row) (size : ℕ) (room : 2 
           ap row_line (get_or-set_other (set rows (2 * i) first) (2 * i + 1) l second no_row n₂ ∙ get_or-set_other rows (2 * i) l first no_row n₁)
           ∙ h l ∙ ap (λ b. cond b (line_of links l) no_line) (tests n₁ n₂)
 
+pub bare_lists : (rows : List Row) (items : List Frame) → ring_lists rows 0 items ≡ none_waits
+bare_lists rows items = λ i l. past rows 0 items l (omega arith) i
+
+pub laid_lists : (rows : List Row) (n size : ℕ) (items : List Frame) → Laid rows n size → ring_lists rows n items ≡ none_waits
+laid_lists rows n size items laid = λ i l. each_bare l i
+  where
+    each_bare : (l : ℕ) → ring_lists rows n items l ≡ []
+    each_bare l = ⊎_elim (λ lt. bare rows n items l lt (laid.still l lt)) (λ le. past rows n items l le) (cases_lt l n)
+
 pub ring_shape-bare : (r : Row) → row_line r ≡ no_line → ring_shape (replicate 32 r) 0 ≡ bare_shape
 ring_shape-bare r e = λ i. record { lines = 0; line = λ l. bare_rows r e 32 l i; ports = 0; kept = 1048576; depth = 8 }
+
+pub laid_shape : (links : List Link) (rows : List Row) → ((l : ℕ) → row_line (row_at rows l) ≡ line_of links l) → ring_shape rows (2 * length links) ≡ link_shape links
+laid_shape links rows h = λ i. record { lines = 2 * length links; line = λ l. h l i; ports = 2 * length links; kept = 1048576; depth = 8 }

@@ -1,5 +1,5 @@
 -- The rules of links, link by link. Assumes nothing.
-use Rattle.std.proofs.Common.{◌≡◌, ℕ, zero, suc, ◌+◌, ◌<◌, ◌≤◌, Bool, true, false, cond, not, ◌&&◌, eqb, leb, ◌≢◌, ◌*◌, min, List, [], ◌∷◌, length, take, Some, None, Option, sym, refl, ap, ◌∙◌, add-one, arith}
+use Rattle.std.proofs.Common.{◌≡◌, ℕ, zero, suc, ◌+◌, ◌<◌, ◌≤◌, Bool, true, false, cond, not, ◌&&◌, eqb, leb, ◌≢◌, ◌*◌, min, List, [], ◌∷◌, length, take, drop, Some, None, Option, sym, refl, ap, ◌∙◌, add-one, arith, drop-cons}
 use Rattle.std.proofs.lemmas.Option.{none-some}
 use Rattle.std.proofs.lemmas.List.{take_all}
 use Rattle.std.specs.List.{sum_by}
@@ -63,6 +63,30 @@ taken_caps ks (suc n) le =
 
 pub taken_all : (ks : List Link) → taken ks (length ks) ≡ 2 * sum_by (λ k. k.cap) ks
 taken_all ks = taken_caps ks (length ks) (omega arith) ∙ ap (λ xs. 2 * sum_by (λ (k : Link). k.cap) xs) (take_all (length ks) ks (omega arith))
+
+-- what it takes that no rule of a ring plant is broken
+pub record RulesKept (links : List Link) (places : ℕ) : Type 0 where
+  pub most : length links ≤ 16
+  pub each : links_refusal links ≡ None
+  pub enough : taken links (length links) ≤ places
+
+pub ring_ok : (links : List Link) (places : ℕ) → ring_refusal links places ≡ None → RulesKept links places
+ring_ok links places h = go (leb 1 (length links) && leb (length links) 16) (leb (taken links (length links)) places) refl refl h
+  where
+    last : (b : Bool) → cond {A = Option ℕ} b None (Some 27) ≡ None → b ≡ true
+    last true e = refl
+    last false e = absurd (none-some 27 (sym e))
+
+    go : (p q : Bool) → leb 1 (length links) && leb (length links) 16 ≡ p → leb (taken links (length links)) places ≡ q
+        → cond {A = Option ℕ} p (or_else (links_refusal links) (cond q None (Some 27))) (Some 7) ≡ None → RulesKept links places
+    go false q _ _ e = absurd (none-some 7 (sym e))
+    go true q p r e =
+        let both = both_none (links_refusal links) (cond q None (Some 27)) e in
+        record {
+          most = ((decides_and (decides_le 1 (length links)) (decides_le (length links) 16)).sure p).1;
+          each = both.0;
+          enough = (decides_le (taken links (length links)) places).sure (r ∙ last q both.1);
+        }
 
 -- a cap that a rule allows is no more than 32
 room_caps : (ks : List Link) → links_refusal ks ≡ None → sum_by (λ k. 2 * min k.cap 32) ks ≡ 2 * sum_by (λ k. k.cap) ks
