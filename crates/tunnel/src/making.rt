@@ -13,6 +13,7 @@ use crate::rules::judge;
 use crate::tunnel::Tunnel;
 use frame::Refusal;
 use plant::Plant;
+use std::array::from_fn;
 
 impl<P: Plant> Tunnel<P> {
     // A tunnel over a plant, along lines of it and with a window: how many frames may be under way in one direction.
@@ -55,11 +56,7 @@ impl<P: Plant> Tunnel<P> {
 fn first_eight(lines: &[usize]) -> [usize; 8]
     ensures { result ≡ padded 8 lines.now }
 {
-    let mut row = [0; 8];
-    for i in 0..lines.len().min(8) {
-        row[i] = lines[i];
-    }
-    row
+    from_fn(|i| lines.get(i).copied().unwrap_or(0))
 }
 
 impl<P: Plant> Tunnel<P> {

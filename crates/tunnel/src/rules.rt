@@ -45,12 +45,7 @@ fn exist<P: Plant>(below: &P, path: &Path) -> bool
     requires few { path.now.len ≤ 8 }
     ensures { MatchBool result (Exist (P.value below.now).shape path.now) (Exist (P.value below.now).shape path.now → ⊥) }
 {
-    for i in 0..path.len {
-        if path.lines[i] >= below.lines() {
-            return false;
-        }
-    }
-    true
+    path.hops().iter().all(|line| *line < below.lines())
 }
 
 // Whether two lines are of one link.
@@ -82,12 +77,7 @@ fn apart(path: &Path) -> bool
 fn still<P: Plant>(below: &P) -> bool
     ensures { MatchBool result (total (P.value below.now) ≡ 0) (total (P.value below.now) ≢ 0) }
 {
-    for l in 0..below.lines() {
-        if below.waits(l).unwrap() > 0 {
-            return false;
-        }
-    }
-    true
+    (0..below.lines()).all(|line| below.waits(line) == Some(0))
 }
 
 impl<P: Plant> Laid<'_, P> {
