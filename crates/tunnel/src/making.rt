@@ -50,16 +50,7 @@ impl<P: Plant> Tunnel<P> {
     {
         &self.below
     }
-}
 
-// The first eight of some lines, and 0 where there are no more.
-fn first_eight(lines: &[usize]) -> [usize; 8]
-    ensures { result ≡ padded 8 lines.now }
-{
-    from_fn(|i| lines.get(i).copied().unwrap_or(0))
-}
-
-impl<P: Plant> Tunnel<P> {
     // The open tunnel, unless it is void.
     pub(crate) fn open(&self) -> Result<Open<'_, P>, Refusal>
         ensures { MatchResult result (λ o. (o.below.now ≡ self.now.below) × (self.now.route ≡ Ok o.path.now)) (λ e. self.now.route ≡ Err e) }
@@ -72,4 +63,11 @@ impl<P: Plant> Tunnel<P> {
             Err(refusal) => Err(*refusal),
         }
     }
+}
+
+// The first eight of some lines, and 0 where there are no more.
+fn first_eight(lines: &[usize]) -> [usize; 8]
+    ensures { result ≡ padded 8 lines.now }
+{
+    from_fn(|i| lines.get(i).copied().unwrap_or(0))
 }

@@ -11,7 +11,7 @@ use plant::partner_of;
 
 #[derive(Clone, Copy)]
 pub struct Path {
-    // the lines below of the hops forth
+    // the lines below of the hops forth, in a table of their own since no memory is taken for a tunnel
     pub(crate) lines: [usize; 8],
     // how many hops there are
     pub(crate) len: usize,

@@ -52,10 +52,7 @@ fn exist<P: Plant>(below: &P, path: &Path) -> bool
 fn same_link(one: usize, two: usize) -> bool
     ensures { MatchBool result ((one ≡ two) ⊎ (one ≡ partner two)) ((one ≢ two) × (one ≢ partner two)) }
 {
-    if one == two {
-        return true;
-    }
-    one == partner_of(two)
+    one == two || one == partner_of(two)
 }
 
 // Whether no link comes twice.
@@ -63,11 +60,10 @@ fn apart(path: &Path) -> bool
     requires few { path.now.len ≤ 8 }
     ensures { MatchBool result (Apart path.now) (Apart path.now → ⊥) }
 {
-    for i in 0..path.len {
-        for j in 0..i {
-            if same_link(path.lines[j], path.lines[i]) {
-                return false;
-            }
+    let hops = path.hops();
+    for (i, two) in hops.iter().enumerate() {
+        if hops[..i].iter().any(|one| same_link(*one, *two)) {
+            return false;
         }
     }
     true
@@ -88,7 +84,8 @@ impl<P: Plant> Laid<'_, P> {
         self.chained() && apart(self.path) && self.open_ended()
     }
 
-    // Whether each line begins where the one before ends.
+    // Whether each line begins where the one before ends. By index, as is wide: in a closure over the hops the answers below
+    // could not be unwrapped, which was tried.
     fn chained(&self) -> bool
         ensures { MatchBool result (Chained (P.value self.now.below.now).shape self.now.path.now) (Chained (P.value self.now.below.now).shape self.now.path.now → ⊥) }
     {
