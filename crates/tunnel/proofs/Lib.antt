@@ -5,6 +5,7 @@ pub mod Steps
 pub mod Answers
 pub mod Rooms
 pub mod Counts
+pub mod Hops
 pub mod Reading
 pub mod Handing
 pub mod Voids

@@ -121,7 +121,7 @@ module _ (f : ℕ → List FrameValue) (n k left : ℕ) (lt : k < n) where
 
 -- a question about a line that exists is answered
 module _ {X : Type 0} (s : Shape) (l : ℕ) (x : X) (o : Option X) (lt : l < s.lines) (told : o ≡ of_line s l x) where
-  told_some : o ≡ Some x
+  pub told_some : o ≡ Some x
   told_some = told ∙ cond-true (ltb l s.lines) (Some x) None (lt-ltb l s.lines lt)
 
   pub is_told : IsSome o

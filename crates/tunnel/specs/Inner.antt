@@ -1,5 +1,5 @@
 -- What only the contracts of inner functions cite; nothing that is public rests on it. Assumes nothing.
-use Rattle.std.specs.Prelude.{◌≡◌, ℕ, ◌+◌, ◌-◌, ◌<◌, ◌≤◌, Bool, true, false, not, ◌≢◌, Some, None, Option, Result}
+use Rattle.std.specs.Prelude.{◌≡◌, ℕ, ◌+◌, ◌-◌, ◌<◌, ◌≤◌, Bool, true, false, not, ◌≢◌, List, length, slice_index_or, Some, None, Option, Result}
 use Rattle.std.specs.Option.{option_map}
 use Rattle.frame.specs.declared.frame.Frame.{Frame}
 use Rattle.frame.specs.declared.refusal.Refusal.{Refusal}
@@ -42,6 +42,11 @@ pub record Able (v : PlantValue) (p : Path) : Type 0 where
 abbrev pub Owned : Path → ℕ → FrameValue → Option Hop → Type 0
 Owned p l f None = own p l f ≡ false
 Owned p l f (Some h) = (h.index < p.len) × (l ≡ (way_of h.back p).at h.index) × (top_is ((way_of h.back p).label h.index) f ≡ true)
+
+-- the lines of the hops forth, in a list
+pub record Hops (p : Path) (xs : List ℕ) : Type 0 where
+  pub count : length xs ≡ p.len
+  pub each : (i d : ℕ) → i < p.len → slice_index_or xs i d ≡ hop p i
 
 -- the hop forth on a line, if there is one
 abbrev pub Found : Path → ℕ → Option ℕ → Type 0

@@ -1,13 +1,12 @@
 -- What is kept of a tunnel holds in at most one way, as the invariant of a struct must. Assumes nothing.
-use Rattle.std.specs.Prelude.{◌≡◌, ℕ, suc, ◌<◌, ◌≤◌, List, [], ◌∷◌, length, Ok, Err, Result}
+use Rattle.std.specs.Prelude.{◌≤◌, List, [], ◌∷◌, length, Ok, Err, Result}
 use Rattle.std.specs.Coded.{×_prop, Unit-prop, le_prop}
 use denote.Struct.Props.{props}
 use Rattle.frame.specs.declared.refusal.Refusal.{Refusal}
 use Rattle.frame.specs.Frames.{FrameValue}
-use Rattle.plant.specs.Plants.{PlantValue, Shape, Lawful}
+use Rattle.plant.specs.Plants.{PlantValue}
 use Rattle.tunnel.specs.declared.path.Path.{Path}
-use Rattle.tunnel.specs.Tunnels.{tunnel_value}
-use Rattle.tunnel.specs.Held.{Links, PathOk, All, Shallow, TunnelOk, Kept}
+use Rattle.tunnel.specs.Held.{All, TunnelOk, Kept}
 
 all_prop : {X : Type 0} (P : X → Type 0) → ((x : X) → IsProp (P x)) → (xs : List X) → IsProp (All P xs)
 all_prop P one [] = Unit-prop

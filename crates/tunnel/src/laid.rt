@@ -11,6 +11,7 @@ use plant::Plant;
 pub(crate) struct Laid<'a, P: Plant> {
     pub(crate) below: &'a P,
     pub(crate) path: &'a Path,
+    // there are 1 to 8 hops, each on a line that exists
     ghost some: { 1 ≤ path.now.len },
     ghost few: { path.now.len ≤ 8 },
     ghost exist: { Exist (P.value below.now).shape path.now } by { Prim.hlevel props },
@@ -30,6 +31,7 @@ impl<P: Plant> Laid<'_, P> {
     pub(crate) fn travelled(&self, back: bool) -> usize
         ensures { result ≡ spans (P.value self.now.below.now).shape (way_of back self.now.path.now) }
     {
+        // by index: as a sum over a range it was tried, and that the sum fits was not proved
         let mut sum = 0;
         for index in 0..self.path.len {
             sum += self.below.span(self.at(Hop { back, index })).unwrap();

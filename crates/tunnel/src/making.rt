@@ -13,6 +13,7 @@ use crate::rules::judge;
 use crate::tunnel::Tunnel;
 use frame::Refusal;
 use plant::Plant;
+use std::array::from_fn;
 
 impl<P: Plant> Tunnel<P> {
     // A tunnel over a plant, along lines of it and with a window: how many frames may be under way in one direction.
@@ -49,20 +50,7 @@ impl<P: Plant> Tunnel<P> {
     {
         &self.below
     }
-}
 
-// The first eight of some lines, and 0 where there are no more.
-fn first_eight(lines: &[usize]) -> [usize; 8]
-    ensures { result ≡ padded 8 lines.now }
-{
-    let mut row = [0; 8];
-    for i in 0..lines.len().min(8) {
-        row[i] = lines[i];
-    }
-    row
-}
-
-impl<P: Plant> Tunnel<P> {
     // The open tunnel, unless it is void.
     pub(crate) fn open(&self) -> Result<Open<'_, P>, Refusal>
         ensures { MatchResult result (λ o. (o.below.now ≡ self.now.below) × (self.now.route ≡ Ok o.path.now)) (λ e. self.now.route ≡ Err e) }
@@ -75,4 +63,11 @@ impl<P: Plant> Tunnel<P> {
             Err(refusal) => Err(*refusal),
         }
     }
+}
+
+// The first eight of some lines, and 0 where there are no more.
+fn first_eight(lines: &[usize]) -> [usize; 8]
+    ensures { result ≡ padded 8 lines.now }
+{
+    from_fn(|i| lines.get(i).copied().unwrap_or(0))
 }

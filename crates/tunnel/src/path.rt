@@ -4,14 +4,14 @@ ghost use Rattle.frame.specs.Frames.{frame_value};
 ghost use Rattle.tunnel.specs.Tunnels.{way_of, crossing};
 ghost use Rattle.tunnel.specs.Held.{Links};
 ghost use Rattle.tunnel.specs.Onward.{line_of};
-ghost use Rattle.tunnel.specs.Inner.{Found, OnHop, Owned, link_of};
+ghost use Rattle.tunnel.specs.Inner.{Hops, Found, OnHop, Owned, link_of};
 
 use frame::Frame;
 use plant::partner_of;
 
 #[derive(Clone, Copy)]
 pub struct Path {
-    // the lines below of the hops forth
+    // the lines below of the hops forth, in a table of their own since no memory is taken for a tunnel
     pub(crate) lines: [usize; 8],
     // how many hops there are
     pub(crate) len: usize,
@@ -31,17 +31,20 @@ pub struct Hop {
 }
 
 impl Path {
+    // The lines of the hops forth.
+    pub(crate) fn hops(&self) -> &[usize]
+        requires { self.now.len ≤ 8 }
+        ensures { Hops self.now result.now }
+    {
+        &self.lines[..self.len]
+    }
+
     // The hop forth that is on a line.
     fn find(&self, line: usize) -> Option<usize>
         requires { self.now.len ≤ 8 }
         ensures { Found self.now line result }
     {
-        for i in 0..self.len {
-            if self.lines[i] == line {
-                return Some(i);
-            }
-        }
-        None
+        self.hops().iter().position(|on| *on == line)
     }
 
     // The hop that is on a line.

@@ -10,6 +10,8 @@ use crate::path::Hop;
 use frame::Frame;
 use plant::Plant;
 
+// The loops over hops and places go by index: a plant lends no list of either, and a closure that unwraps its answers was
+// tried and not proved, being asked for every index.
 impl<P: Plant> Open<'_, P> {
     // The routers where a line begins and ends.
     pub(crate) fn ends(&self, line: usize) -> (usize, usize)

@@ -45,22 +45,14 @@ fn exist<P: Plant>(below: &P, path: &Path) -> bool
     requires few { path.now.len ≤ 8 }
     ensures { MatchBool result (Exist (P.value below.now).shape path.now) (Exist (P.value below.now).shape path.now → ⊥) }
 {
-    for i in 0..path.len {
-        if path.lines[i] >= below.lines() {
-            return false;
-        }
-    }
-    true
+    path.hops().iter().all(|line| *line < below.lines())
 }
 
 // Whether two lines are of one link.
 fn same_link(one: usize, two: usize) -> bool
     ensures { MatchBool result ((one ≡ two) ⊎ (one ≡ partner two)) ((one ≢ two) × (one ≢ partner two)) }
 {
-    if one == two {
-        return true;
-    }
-    one == partner_of(two)
+    one == two || one == partner_of(two)
 }
 
 // Whether no link comes twice.
@@ -68,11 +60,10 @@ fn apart(path: &Path) -> bool
     requires few { path.now.len ≤ 8 }
     ensures { MatchBool result (Apart path.now) (Apart path.now → ⊥) }
 {
-    for i in 0..path.len {
-        for j in 0..i {
-            if same_link(path.lines[j], path.lines[i]) {
-                return false;
-            }
+    let hops = path.hops();
+    for (i, two) in hops.iter().enumerate() {
+        if hops[..i].iter().any(|one| same_link(*one, *two)) {
+            return false;
         }
     }
     true
@@ -82,12 +73,7 @@ fn apart(path: &Path) -> bool
 fn still<P: Plant>(below: &P) -> bool
     ensures { MatchBool result (total (P.value below.now) ≡ 0) (total (P.value below.now) ≢ 0) }
 {
-    for l in 0..below.lines() {
-        if below.waits(l).unwrap() > 0 {
-            return false;
-        }
-    }
-    true
+    (0..below.lines()).all(|line| below.waits(line) == Some(0))
 }
 
 impl<P: Plant> Laid<'_, P> {
@@ -98,7 +84,8 @@ impl<P: Plant> Laid<'_, P> {
         self.chained() && apart(self.path) && self.open_ended()
     }
 
-    // Whether each line begins where the one before ends.
+    // Whether each line begins where the one before ends. By index, as is wide: in a closure over the hops the answers below
+    // could not be unwrapped, which was tried.
     fn chained(&self) -> bool
         ensures { MatchBool result (Chained (P.value self.now.below.now).shape self.now.path.now) (Chained (P.value self.now.below.now).shape self.now.path.now → ⊥) }
     {

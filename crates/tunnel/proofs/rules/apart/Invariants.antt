@@ -1,10 +1,7 @@
 use Rattle.std.proofs.Common.{ℕ, ◌<◌, ◌≢◌}
-use Rattle.tunnel.specs.Tunnels.{hop}
 use Rattle.plant.specs.Plants.{partner}
+use Rattle.tunnel.specs.Tunnels.{hop}
 use Rattle.tunnel.proofs.rules.apart.Given as goal
 
 abbrev pub invariant-loop-i : goal.invariant-loop-i
 invariant-loop-i l = (a b : ℕ) → a < l.i → b < a → (hop l.path b ≢ hop l.path a) × (hop l.path b ≢ partner (hop l.path a))
-
-abbrev pub invariant-loop-j : goal.invariant-loop-j
-invariant-loop-j l = ((a b : ℕ) → a < l.i → b < a → (hop l.path b ≢ hop l.path a) × (hop l.path b ≢ partner (hop l.path a))) × ((b : ℕ) → b < l.j → (hop l.path b ≢ hop l.path l.i) × (hop l.path b ≢ partner (hop l.path l.i)))

@@ -1,4 +1,4 @@
-use Rattle.std.proofs.Common.{◌≡◌, ℕ, Some, None, Option, sym, ◌∙◌}
+use Rattle.std.proofs.Common.{rules, ◌≡◌, ℕ, Bool, Some, None, Option, sym, ◌∙◌}
 use Rattle.std.specs.Option.{is_some}
 use Rattle.tunnel.specs.declared.path.Path.{Path}
 use Rattle.tunnel.specs.declared.path.Hop.{Hop}
@@ -8,9 +8,9 @@ use Rattle.tunnel.specs.Inner.{OnHop}
 use Rattle.tunnel.specs.Paths.{crossing_here, crossing_nowhere}
 use Rattle.tunnel.proofs.path.Path.crosses.Goals as goal
 
-by_hop : (p : Path) → Links p → (l : ℕ) (o : Option Hop) → OnHop p l o → is_some o ≡ crossing p l
-by_hop p ok l (Some h) on = sym (crossing_here p ok l h on)
-by_hop p ok l None off = sym (crossing_nowhere p ok l off)
+by_hop : (p : Path) → Links p → (l : ℕ) (o : Option Hop) → OnHop p l o → (b : Bool) → b ≡ is_some o → b ≡ crossing p l
+by_hop p ok l (Some h) on b e = e ∙ sym (crossing_here p ok l h on)
+by_hop p ok l None off b e = e ∙ sym (crossing_nowhere p ok l off)
 
 pub returns : goal.returns
-returns c = c.is_some.ensures ∙ by_hop c.args.self.now c.requires.links c.args.line c.hop_on.result c.hop_on.ensures
+returns c = search (rules, by_hop)
