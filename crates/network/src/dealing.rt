@@ -39,7 +39,6 @@ impl<P: Plant> Network<P> {
         if self.is_full(line) {
             return Verdict::Drop(Cause::NoRoom);
         }
-        let label = Label::new(label).unwrap();
         Verdict::Forward { line, label }
     }
 
