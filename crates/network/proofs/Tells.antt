@@ -1,18 +1,18 @@
 -- A tell, by what is due. Assumes nothing.
-use Rattle.std.proofs.Common.{◌≡◌, ℕ, ◌<◌, ◌≤◌, Bool, true, false, cond, ◌&&◌, ltb, leb, Some, None, Option, Result, sym, refl, ap, ◌∙◌, subst, ap₂}
-use Rattle.std.proofs.lemmas.Bool.{cond-true, cond-false, le-leb, lt-leb, lt-ltb, and_from}
+use Rattle.std.proofs.Common.{◌≡◌, ℕ, ◌<◌, ◌≤◌, Bool, true, false, cond, ◌&&◌, leb, Some, None, Option, Result, sym, refl, ap, ◌∙◌, subst, ap₂}
+use Rattle.std.proofs.lemmas.Bool.{cond-true, cond-false, le-leb, lt-leb}
 use Rattle.frame.specs.declared.refusal.Refusal.{Refusal}
 use Rattle.frame.specs.Numbers.{kind_number}
 use Rattle.frame.specs.Frames.{FrameValue}
 use Rattle.plant.specs.Plants.{PlantValue, Shape}
 use Rattle.plant.specs.Answers.{Sends}
 use Rattle.lookup.specs.declared.address.Address.{Address}
-use Rattle.model.specs.Tables.{Tables as tables, is_label, is_some, first_label}
+use Rattle.model.specs.Tables.{Tables as tables, is_some, first_label}
 use Rattle.model.specs.Messages.{Due, message, due_or, next_message}
 use Rattle.model.specs.Packets.{is_full}
 use Rattle.model.specs.Calls.{State, done, tell, tell_refusal, tell_next}
 use Rattle.model.specs.History.{Did, accepted}
-use Rattle.model.proofs.Firsts.{never, label_some}
+use Rattle.model.proofs.Firsts.{never}
 use Rattle.model.proofs.Citing.{did_act}
 use Rattle.tables.specs.declared.message.Message.{Message}
 use Rattle.tables.specs.declared.tables.Tables.{Tables}

@@ -26,6 +26,8 @@ fn line_back(line: usize) -> Line
     Line::new(partner_of(line)).unwrap()
 }
 
+// Line, FEC and label stay three arguments: they are what came in a frame, whose numbers `named` judges at once.
+// That the network runs stays asked of each function: a type that says so would lend the routers twice, and be no plainer.
 impl Routers {
     // The FEC and the label that a message names, if there are such.
     fn named(&self, fec: u32, label: u32) -> Option<(FecNumber, Label)>

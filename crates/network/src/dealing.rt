@@ -19,6 +19,7 @@ use labels::Status;
 use model::{Cause, Fate};
 use plant::Plant;
 
+// That a line is one of the plant's stays asked: a line's number cannot say of which plant.
 impl<P: Plant> Network<P> {
     // Whether as many frames wait on a line as may.
     pub(crate) fn is_full(&self, line: usize) -> bool
