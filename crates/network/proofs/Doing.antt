@@ -17,13 +17,6 @@ use Rattle.network.specs.Networks.{plan_of, state_of, wiring_of, Fits, Keeps}
 use Rattle.network.specs.Dealing.{Dealt, Seen, arrival_of}
 use Rattle.network.proofs.Citing.{runs}
 
-pub keeps_then : {n n' n'' : Routers} → Keeps n n' → Keeps n' n'' → Keeps n n''
-keeps_then a b = record {
-  plan = b.plan ∙ a.plan;
-  still = b.still ∙ a.still;
-  tables = record { policy = b.tables.policy ∙ a.tables.policy; wiring = b.tables.wiring ∙ a.tables.wiring; lines = b.tables.lines ∙ a.tables.lines };
-}
-
 pub fits_then : (n n' : Routers) (v w : PlantValue) → Fits n v → Keeps n n' → w.shape ≡ v.shape → Fits n' w
 fits_then n n' v w f k q = subst (λ x. Wired x w.shape) (sym k.tables.wiring) (subst (Wired (wiring_of n)) (sym q) f)
 

@@ -3,7 +3,7 @@ use Rattle.std.proofs.Common.{◌≡◌, ℕ, ◌<◌, ◌≤◌, Bool, true, fa
 use Rattle.std.specs.Bool.{MatchBool}
 use Rattle.std.specs.List.{range_with_len, HoldsAt, AllWithin}
 use Rattle.std.proofs.lemmas.List.FromFn.{length-range_with_len, get_or-range_with_len}
-use Rattle.std.proofs.lemmas.Bool.{cases_eq, cases_lt, cond-false, lt-ltb, le-ltb, leb-false}
+use Rattle.std.proofs.lemmas.Bool.{cases_eq, cases_lt, lt-ltb, le-ltb, leb-false}
 use Rattle.plant.specs.Plants.{PlantValue, total}
 use Rattle.plant.proofs.Sums.{sum_zero, sum_none}
 use Rattle.lookup.specs.declared.plan.Plan.{Plan}
@@ -13,6 +13,7 @@ use Rattle.model.specs.History.{is_outside, is_still}
 use Rattle.model.proofs.Firsts.{never, first_none, first_missing}
 use Rattle.labels.specs.declared.wiring.Wiring.{Wiring}
 use Rattle.labels.specs.Wirings.{Wired, end_of}
+use Rattle.labels.proofs.Shapes.{no_end}
 use Rattle.network.specs.Networks.{plan_of}
 
 pub busy : (v : PlantValue) (e : ℕ) → e < v.shape.lines → 0 < length (v.waiting e) → true ≡ ltb 0 (total v)
@@ -74,5 +75,5 @@ inside p v w wired q e r d = ⊎_elim within beyond (cases_lt e v.shape.lines)
 
     beyond : v.shape.lines ≤ e → r < routers_of p
     beyond le =
-        let gone : end_of w e ≡ None = cond-false (ltb e w.lines) (Some (get_or w.to e 0)) None (le-ltb e w.lines (let n = wired.lines in omega arith)) in
+        let gone : end_of w e ≡ None = no_end w e (let n = wired.lines in omega arith) in
         absurd (never (cc (d, gone)))

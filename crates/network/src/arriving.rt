@@ -2,7 +2,7 @@
 ghost use Rattle.std.specs.Prelude.{◌≡◌, ◌<◌, false, List, Some, IfSome, is_some, nat_eq};
 ghost use Rattle.frame.specs.declared.entry.Entry.{Entry};
 ghost use Rattle.frame.specs.declared.kind.Kind.TheVariants.{Mapping, Withdraw, Release};
-ghost use Rattle.plant.specs.Plants.{PlantValue};
+ghost use Rattle.plant.specs.Plants.{PlantValue, partner};
 ghost use Rattle.model.specs.Tables.{withdrawn};
 ghost use Rattle.model.specs.Packets.{at, is_waiting};
 ghost use Rattle.book.specs.Books.{book_of};
@@ -13,11 +13,21 @@ ghost use Rattle.network.specs.Networks.{plan_of, state_of, wiring_of, Fits};
 ghost use Rattle.network.specs.Dealing.{Took};
 
 use crate::routers::Routers;
-use grid::{FecNumber, Label, Router};
+use grid::{FecNumber, Label, Line, Router};
 use labels::Stage;
 use model::Met;
 use plant::partner_of;
 
+// The line back to where a line began.
+fn line_back(line: usize) -> Line
+    requires { line < 48 }
+    ensures { result ≡ partner line }
+{
+    Line::new(partner_of(line)).unwrap()
+}
+
+// Line, FEC and label stay three arguments: they are what came in a frame, whose numbers `named` judges at once.
+// That the network runs stays asked of each function: a type that says so would lend the routers twice, and be no plainer.
 impl Routers {
     // The FEC and the label that a message names, if there are such.
     fn named(&self, fec: u32, label: u32) -> Option<(FecNumber, Label)>
@@ -56,12 +66,7 @@ impl Routers {
             return Met::Stray;
         };
         let router = self.end_of(line);
-        self.tables.learn(
-            partner_of(line),
-            router.number(),
-            fec.number() as u32,
-            label.number(),
-        );
+        self.tables.learn(line_back(line), router, fec, label);
         Met::Message
     }
 
@@ -75,16 +80,11 @@ impl Routers {
         let Some((fec, label)) = self.named(fec, label) else {
             return Met::Stray;
         };
-        if self.tables.remote(partner_of(line), fec.number() as u32) != Some(label.number()) {
+        if self.tables.remote(partner_of(line), fec.number() as u32) != Some(label) {
             return Met::Stray;
         }
         let router = self.end_of(line);
-        self.tables.unlearn(
-            partner_of(line),
-            router.number(),
-            fec.number() as u32,
-            label.number(),
-        );
+        self.tables.unlearn(line_back(line), router, fec, label);
         Met::Message
     }
 
@@ -92,7 +92,7 @@ impl Routers {
     fn is_awaited(&self, line: usize, label: Label) -> bool
         ensures { result ≡ nat_eq ((tables_of self.now.tables).stage line label) withdrawn }
     {
-        matches!(self.tables.stage(line, label.number()), Stage::Withdrawn)
+        self.tables.stage(line, label.number()) == Stage::Withdrawn
     }
 
     // A release came out of a line. It is awaited.
@@ -107,7 +107,7 @@ impl Routers {
         if !self.is_awaited(line, label) {
             return Met::Stray;
         }
-        self.tables.released(line, label.number());
+        self.tables.released(Line::new(line).unwrap(), label);
         Met::Message
     }
 }

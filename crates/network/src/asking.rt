@@ -10,6 +10,7 @@ ghost use Rattle.book.specs.Books.{book_of};
 
 use crate::network::Network;
 use book::Record;
+use grid::Label;
 use labels::{Stage, Status};
 use lookup::Address;
 use model::Fate;
@@ -55,7 +56,7 @@ impl<P: Plant> Network<P> {
     pub fn remote(&self, line: usize, fec: u32) -> Option<usize>
         ensures { result ≡ (tables_of self.now.routers.tables).remote line fec }
     {
-        self.routers.tables.remote(line, fec)
+        self.routers.tables.remote(line, fec).map(Label::number)
     }
 
     // What a router has a label for.

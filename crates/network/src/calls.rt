@@ -7,6 +7,7 @@ ghost use Rattle.network.specs.Networks.{plan_of, state_of, Keeps, own_answer, i
 use crate::frames::message_frame;
 use crate::network::Network;
 use frame::{Frame, Kind, Refusal};
+use grid::Line;
 use lookup::Address;
 use model::Met;
 use plant::{Outcome, Plant};
@@ -65,9 +66,10 @@ impl<P: Plant> Network<P> {
         if self.is_full(line) {
             return Err(Refusal::LineFull);
         }
-        let _ = self.plant.send(line, message_frame(message));
-        self.routers.tables.sent(line, message);
-        Ok(Some(message.kind))
+        let kind = message.kind;
+        let _ = self.plant.send(line, message_frame(&message));
+        self.routers.tables.sent(Line::new(line).unwrap(), message);
+        Ok(Some(kind))
     }
 
     // Polls a port of the plant, and lets the router at the end of the line see to a frame that comes out.

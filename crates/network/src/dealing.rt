@@ -19,6 +19,7 @@ use labels::Status;
 use model::{Cause, Fate};
 use plant::Plant;
 
+// That a line is one of the plant's stays asked: a line's number cannot say of which plant.
 impl<P: Plant> Network<P> {
     // Whether as many frames wait on a line as may.
     pub(crate) fn is_full(&self, line: usize) -> bool
@@ -39,7 +40,6 @@ impl<P: Plant> Network<P> {
         if self.is_full(line) {
             return Verdict::Drop(Cause::NoRoom);
         }
-        let label = Label::new(label).unwrap();
         Verdict::Forward { line, label }
     }
 

@@ -12,7 +12,8 @@ use lookup::Address;
 use model::Fate;
 
 impl Routers {
-    // The FEC that longest match gives an address.
+    // The FEC that longest match gives an address. A plain number, for `inject` hands it on twice: tried as a FecNumber, and the
+    // borrow checker does not cover the second use of such an Option.
     pub(crate) fn fec_of(&self, address: Address) -> Option<usize>
         ensures found { result ≡ (plan_of self.now.plan).lookup address }
         ensures below { is_below 32 result ≡ true }

@@ -1,7 +1,6 @@
 // The frames that a network sends.
-ghost use Rattle.std.specs.Prelude.{◌≡◌, true};
+ghost use Rattle.std.specs.Prelude.{◌≡◌};
 ghost use Rattle.frame.specs.Frames.{frame_value};
-ghost use Rattle.model.specs.Tables.{is_label};
 ghost use Rattle.model.specs.Messages.{message as message_value};
 ghost use Rattle.model.specs.Packets.{data_frame};
 
@@ -10,15 +9,14 @@ use grid::Label;
 use tables::Message;
 
 // The frame of a message.
-pub(crate) fn message_frame(message: Message) -> Frame
-    requires { is_label message.label ≡ true }
-    ensures { frame_value result ≡ message_value message.kind message.fec message.label }
+pub(crate) fn message_frame(message: &Message) -> Frame
+    ensures { frame_value result ≡ message_value message.now.kind message.now.fec message.now.label }
 {
     Frame {
         kind: message.kind,
         stack: Stack::new(),
         a: message.fec,
-        b: message.label as u32,
+        b: message.label.number() as u32,
     }
 }
 

@@ -16,7 +16,7 @@ impl Routers {
     {
         self.runs()?;
         let (router, fec, on) = self.parse_own(router, fec, mark)?;
-        self.tables.own(router.number(), fec.number() as u32, on);
+        self.tables.own(router, fec, on);
         Ok(())
     }
 
@@ -32,8 +32,7 @@ impl Routers {
     {
         self.runs()?;
         let (router, fec) = self.parse_route(router, fec, line)?;
-        self.tables
-            .route(router.number(), fec.number() as u32, line);
+        self.tables.route(router, fec, line);
         Ok(())
     }
 }

@@ -1,9 +1,10 @@
-use Rattle.std.proofs.Common.{sym, refl, ◌∙◌, arith, rules}
+use Rattle.std.proofs.Common.{◌≡◌, sym, refl, ◌∙◌, subst, arith, rules}
 use Rattle.model.specs.Calls.{tell}
-use Rattle.tables.specs.Reading.{tables_of}
+use Rattle.tables.specs.Reading.{Turned}
+use Rattle.tables.specs.Sending.{after_sent}
 use Rattle.network.specs.Networks.{tell_answer}
 use Rattle.network.proofs.Citing.{stands, going, refuses}
-use Rattle.network.proofs.Tells.{message_real, no_line, line_full, told_none, told}
+use Rattle.network.proofs.Tells.{no_line, line_full, told_none, told}
 use Rattle.network.proofs.network.Network.tell.Goals as goal
 
 pub returns-in_err-runs-clause-did : goal.returns-in_err-runs-clause-did
@@ -30,21 +31,12 @@ returns-then-is_full-clause-did g c =
     refuses s.routers v (tell c.args.line) on 23 (line_full s.routers v c.args.line on (omega (arith, c.lines.ensures, c.if-line-lines.false)) c.in-Some.message
     (c.in-Some.ensures v.shape s.fits) (sym c.is_full.ensures ∙ c.if-is_full.true))
 
-pub message_frame-requires : goal.message_frame-requires
-message_frame-requires g c =
-    let s = c.args.self.now in
-    let v = g.P.Plant.value s.plant in
-    message_real v.shape c.args.line (tables_of s.routers.tables) c.in-Some.message (c.in-Some.ensures v.shape s.fits)
-
-pub sent-requires-clause-label : goal.sent-requires-clause-label
-sent-requires-clause-label g c =
-    let s = c.args.self.now in
-    let v = g.P.Plant.value s.plant in
-    message_real v.shape c.args.line (tables_of s.routers.tables) c.in-Some.message (c.in-Some.ensures v.shape s.fits)
-
 pub returns-clause-did : goal.returns-clause-did
 returns-clause-did g c =
     let s = c.args.self.now in
     let v = g.P.Plant.value s.plant in
-    told s.routers v c.args.line (going s.routers.still c.in_ok-runs.ensures) (omega (arith, c.lines.ensures, c.if-line-lines.false)) c.sent.new.self (g.P.Plant.value c.send.new.self) c.in-Some.message _ c.send.result (sym c.is_full.ensures ∙ c.if-is_full.false)
-    (c.in-Some.ensures v.shape s.fits) c.message_frame.ensures c.send.ensures.sends c.sent.ensures
+    let t = c.sent.new.self in
+    let x = c.in-Some.message in
+    let line : c.unwrap.result ≡ c.args.line = search rules in
+    told s.routers v c.args.line (going s.routers.still c.in_ok-runs.ensures) (omega (arith, c.lines.ensures, c.if-line-lines.false)) t (g.P.Plant.value c.send.new.self) x _ c.send.result (sym c.is_full.ensures ∙ c.if-is_full.false)
+    (c.in-Some.ensures v.shape s.fits) c.message_frame.ensures c.send.ensures.sends (subst (λ l. Turned s.routers.tables (λ m. after_sent l x m) t) line c.sent.ensures)

@@ -21,8 +21,8 @@ returns-clause-did c v fits =
     let call = own c.args.router c.args.fec c.args.mark in
     let t = tables_of n.tables in
     let same = c.in_ok-router.ensures.same in
-    let r = c.number.ensures.same ∙ same.0 in
-    let f = c.number-2.ensures.same ∙ same.1 in
+    let r = same.0 in
+    let f = same.1 in
     runs n v call (going n.still c.in_ok-runs.ensures)
     (did_act (plan_of n.plan) (state_of n v) call refl (sym c.in_ok-router.ensures.refused) _ refl _
     (c.own.ensures.tables v.shape fits ∙ (λ i. refresh (n.steady.policy i) v.shape (r i) (f i) (with_routes (put2 t.owner (r i) (f i) (same.2 i)) t.hop t)))

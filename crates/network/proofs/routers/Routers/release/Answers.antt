@@ -1,4 +1,4 @@
-use Rattle.std.proofs.Common.{◌&&◌, ◌==◌, sym, refl, ap, ◌∙◌}
+use Rattle.std.proofs.Common.{◌&&◌, ◌==◌, ◌≡◌, sym, refl, ap, ◌∙◌, rules}
 use Rattle.model.specs.Tables.{put2, tidy, untold, with_labels, withdrawn}
 use Rattle.model.specs.Calls.{in_range}
 use Rattle.tables.specs.Reading.{tables_of}
@@ -24,8 +24,8 @@ returns c v st fits =
     let e = c.args.line in
     let t = tables_of n.tables in
     let same = c.in-Some.ensures.same.1 in
-    let l = c.number.ensures.same ∙ same in
+    let on : c.unwrap.result ≡ e = search rules in
     let q = ap (λ k. t.stage e k == withdrawn) (sym same) ∙ sym c.is_awaited.ensures ∙ c.if-not-is_awaited.false in
     took_message n v e (in_range (plan_of n.plan) c.args.fec c.args.label && (t.stage e c.args.label == withdrawn)) _ (λ i. sym c.in-Some.ensures.in_range i && q i) _
-    (c.released.ensures.tables v.shape fits ∙ (λ i. tidy v.shape (v.shape.line e).to (l i) (with_labels t.status (put2 t.stage e (l i) untold) t))) refl
+    (c.released.ensures.tables v.shape fits ∙ (λ i. tidy v.shape (v.shape.line (on i)).to (same i) (with_labels t.status (put2 t.stage (on i) (same i) untold) t))) refl
     (record { plan = refl; still = refl; tables = c.released.ensures.stays })

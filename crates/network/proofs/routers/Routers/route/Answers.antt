@@ -22,8 +22,8 @@ returns-clause-did c v fits =
     let call = route c.args.router c.args.fec c.args.line in
     let t = tables_of n.tables in
     let good = c.in_ok-router.ensures.good in
-    let r = c.number.ensures.same ∙ good.0 in
-    let f = c.number-2.ensures.same ∙ good.1 in
+    let r = good.0 in
+    let f = good.1 in
     runs n v call (going n.still c.in_ok-runs.ensures)
     (did_act (plan_of n.plan) (state_of n v) call refl (sym (c.in_ok-router.ensures.refused v.shape fits)) _ refl _
     (c.route.ensures.tables v.shape fits ∙ (λ i. refresh (n.steady.policy i) v.shape (r i) (f i) (with_routes t.owner (put2 t.hop (r i) (f i) c.args.line) t)))
