@@ -8,7 +8,7 @@ use Rattle.frame.specs.Frames.{FrameValue}
 use Rattle.frame.specs.Stacks.{top_of}
 use Rattle.tunnel.specs.declared.path.Path.{Path}
 use Rattle.tunnel.specs.declared.path.Hop.{Hop}
-use Rattle.tunnel.specs.Tunnels.{Way, hop, forth, back, own, own_at, crossing, top_is, tops, on, way_of}
+use Rattle.tunnel.specs.Tunnels.{Way, hop, forth, back, own, own_at, top_is, tops, on, way_of}
 use Rattle.tunnel.specs.Held.{Links}
 use Rattle.plant.specs.Plants.{partner}
 use Rattle.tunnel.specs.Onward.{next_outer}
