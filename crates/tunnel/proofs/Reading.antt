@@ -17,7 +17,7 @@ use Rattle.tunnel.specs.Tunnels.{Way, way_of, own, top_is, keep, forth, back, po
 use Rattle.tunnel.specs.Held.{Links, PathOk, TunnelOk}
 use Rattle.tunnel.specs.Onward.{line_of}
 use Rattle.tunnel.specs.Inner.{OnHop, picks}
-use Rattle.tunnel.specs.Paths.{own_here_is}
+use Rattle.tunnel.specs.Paths.{marked}
 use Rattle.tunnel.proofs.Steps.{low}
 use Rattle.tunnel.proofs.Answers.{Side, side_forth, side_back}
 use Rattle.tunnel.proofs.Rooms.{keep_parts, keep_like, gather_length, way_load}
@@ -145,12 +145,12 @@ module _ (v : PlantValue) (l i : ℕ) (o : Option Frame) (told : Waiting v l i o
 -- the line of a hop: its plain part, and how many of its frames are the hop's own
 module _ (p : Path) (v : PlantValue) (ok : Links p) (l : ℕ) (h : Hop) (lt : l < v.shape.lines) (on : OnHop p l (Some h)) where
   pub hop_plain : (tunnel_value p v).waiting l ≡ keep (picks false ((way_of h.back p).label h.index)) (v.waiting ((way_of h.back p).at h.index))
-  hop_plain = plain_list p v l ((way_of h.back p).label h.index) lt (own_here_is p ok l h on) ∙ ap (λ n. keep (picks false ((way_of h.back p).label h.index)) (v.waiting n)) on.1
+  hop_plain = plain_list p v l ((way_of h.back p).label h.index) lt (marked p ok l (Some h) on).1 ∙ ap (λ n. keep (picks false ((way_of h.back p).label h.index)) (v.waiting n)) on.1
 
   pub hop_waits : length ((tunnel_value p v).waiting l) + length (hop_frames v.waiting (way_of h.back p) h.index) ≡ length (v.waiting l)
   hop_waits =
       let k = (way_of h.back p).label h.index in
-      let a = plain_waits p v l k lt (own_here_is p ok l h on) in
+      let a = plain_waits p v l k lt (marked p ok l (Some h) on).1 in
       let b : length (hop_frames v.waiting (way_of h.back p) h.index) ≡ length (keep (top_is k) (v.waiting l)) =
       length-map (keep (top_is k) (v.waiting ((way_of h.back p).at h.index))) popped ∙ ap (λ n. length (keep (top_is k) (v.waiting n))) (sym on.1) in
       omega arith

@@ -11,7 +11,7 @@ use Rattle.plant.specs.Answers.{Joins}
 use Rattle.plant.specs.Futures.{sent, Future, after, after_send}
 use Rattle.tunnel.specs.declared.path.Path.{Path}
 use Rattle.tunnel.specs.declared.path.Hop.{Hop}
-use Rattle.tunnel.specs.Tunnels.{hop, forth, back, way_of, own, top_is, popped, spans}
+use Rattle.tunnel.specs.Tunnels.{hop, forth, back, way_of, own, crossing, top_is, popped, spans}
 use Rattle.tunnel.specs.Held.{Chained, Apart, Open, Wide}
 use Rattle.tunnel.specs.Onward.{line_of, next_line, next_frame}
 
@@ -57,6 +57,11 @@ Found p l None = (i : ℕ) → i < p.len → hop p i ≢ l
 abbrev pub OnHop : Path → ℕ → Option Hop → Type 0
 OnHop p l (Some h) = (h.index < p.len) × (l ≡ (way_of h.back p).at h.index)
 OnHop p l None = ((i : ℕ) → i < p.len → hop p i ≢ l) × ((i : ℕ) → i < p.len → hop p i ≢ partner l)
+
+-- the own frames of a line are those with a label, if its link is on the path
+abbrev pub Marked : Path → ℕ → Option ℕ → Type 0
+Marked p l (Some k) = (crossing p l ≡ true) × ((f : FrameValue) → own p l f ≡ top_is k f)
+Marked p l None = (crossing p l ≡ false) × ((f : FrameValue) → own p l f ≡ false)
 
 -- the hop forth on whose link hop i of a direction is
 abbrev pub link_of : Path → Bool → ℕ → ℕ

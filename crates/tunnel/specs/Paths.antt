@@ -1,17 +1,18 @@
 -- What the rules of a path give: no line of one way is on the other, or twice on one. Assumes nothing.
-use Rattle.std.specs.Prelude.{◌≡◌, ℕ, zero, suc, ◌+◌, ◌-◌, ◌%◌, ◌<◌, ◌≤◌, Bool, true, false, cond, ◌||◌, ◌≢◌, List, [], ◌∷◌, length, Some, None, ◌==◌, refl}
-use Rattle.std.proofs.Common.{sym, ap, ap₂, ◌∙◌, ⊎_elim, arith}
+use Rattle.std.specs.Prelude.{◌≡◌, ℕ, zero, suc, ◌+◌, ◌-◌, ◌%◌, ◌<◌, ◌≤◌, Bool, true, false, cond, ◌||◌, ◌≢◌, List, [], ◌∷◌, length, Some, None, Option, ◌==◌, refl}
+use Rattle.std.proofs.Common.{sym, ap, ap₂, ◌∙◌, subst, ⊎_elim, arith}
+use Rattle.std.specs.Option.{option_map}
 use Rattle.std.proofs.lemmas.Bool.{cases_eq, cases_order, cond-true, cond-false, eq-eqb, ne_eqb, or_from, or_left, or_right}
 use Rattle.frame.specs.declared.entry.Entry.{Entry}
 use Rattle.frame.specs.Frames.{FrameValue}
 use Rattle.frame.specs.Stacks.{top_of}
 use Rattle.tunnel.specs.declared.path.Path.{Path}
 use Rattle.tunnel.specs.declared.path.Hop.{Hop}
-use Rattle.tunnel.specs.Tunnels.{Way, hop, forth, back, own, own_at, crossing, top_is, tops, on, way_of}
+use Rattle.tunnel.specs.Tunnels.{Way, hop, forth, back, own, own_at, top_is, tops, on, way_of}
 use Rattle.tunnel.specs.Held.{Links}
 use Rattle.plant.specs.Plants.{partner}
 use Rattle.tunnel.specs.Onward.{next_outer}
-use Rattle.tunnel.specs.Inner.{OnHop}
+use Rattle.tunnel.specs.Inner.{OnHop, Marked}
 use Rattle.tunnel.specs.Ways.{own_none, own_here, on_here, on_none}
 
 pub partner_even : (l : ℕ) → l % 2 ≡ 0 → partner l ≡ l + 1
@@ -96,28 +97,34 @@ module _ (p : Path) (ok : Links p) where
   back_label i lt = let q : p.len - 1 - (p.len - 1 - i) ≡ i = omega arith in ap (λ k. p.base + k) q
 
 module _ (p : Path) (ok : Links p) (l : ℕ) where
-  -- the own frames on a hop's line are those with its label, and its link is on the path
-  pub own_here_is : (h : Hop) → OnHop p l (Some h) → (f : FrameValue) → own p l f ≡ top_is ((way_of h.back p).label h.index) f
-  own_here_is h on f = ap (λ n. own p n f) on.1 ∙ side h.back h.index on.0
+  pub mark_forth : (i : ℕ) → i < p.len → hop p i ≡ l → Marked p l (Some (p.base + i))
+  mark_forth i lt e = subst (λ n. Marked p n (Some (p.base + i))) e
+      (or_left (on (forth p) p.len (hop p i)) (on (back p) p.len (hop p i)) (on_here (forth p) i p.len lt), λ f. own_forth p ok i f lt)
+
+  pub mark_back : (i : ℕ) → i < p.len → hop p i ≡ partner l → Marked p l (Some (p.base + i))
+  mark_back i lt e =
+      let k = p.len - 1 - i in
+      let in_way : k < p.len = omega arith in
+      subst (λ n. Marked p n (Some (p.base + i))) (sym (back_at p ok i l lt e)) (
+        or_right (on (forth p) p.len ((back p).at k)) (on (back p) p.len ((back p).at k)) (on_here (back p) k p.len in_way),
+        λ f. own_back p ok k f in_way ∙ ap (λ n. top_is n f) (back_label p ok i lt),
+      )
+
+  pub mark_none : ((i : ℕ) → i < p.len → hop p i ≢ l) → ((i : ℕ) → i < p.len → hop p i ≢ partner l) → Marked p l None
+  mark_none a b = (
+    or_from (on (forth p) p.len l) (on (back p) p.len l) (on_none (forth p) l p.len a)
+        (on_none (back p) l p.len (λ i lt e. b (p.len - 1 - i) (omega arith) (sym (partner_twice (hop p (p.len - 1 - i))) ∙ ap partner e))),
+    λ f. own_off p ok l f a b,
+  )
+
+  -- so of a line that a hop is on, and of one that none is on
+  pub marked : (o : Option Hop) → OnHop p l o → Marked p l (option_map (λ (h : Hop). (way_of h.back p).label h.index) o)
+  marked None off = mark_none off.0 off.1
+  marked (Some h) on = at h.back h.index on.0 on.1
     where
-      side : (b : Bool) (k : ℕ) → k < p.len → own p ((way_of b p).at k) f ≡ top_is ((way_of b p).label k) f
-      side true k lt = own_back p ok k f lt
-      side false k lt = own_forth p ok k f lt
-
-  pub crossing_here : (h : Hop) → OnHop p l (Some h) → crossing p l ≡ true
-  crossing_here h at = ap (crossing p) at.1 ∙ side h.back h.index at.0
-    where
-      side : (b : Bool) (k : ℕ) → k < p.len → crossing p ((way_of b p).at k) ≡ true
-      side true k lt = or_right (on (forth p) p.len ((back p).at k)) (on (back p) p.len ((back p).at k)) (on_here (back p) k p.len lt)
-      side false k lt = or_left (on (forth p) p.len (hop p k)) (on (back p) p.len (hop p k)) (on_here (forth p) k p.len lt)
-
-  pub own_nowhere : OnHop p l None → (f : FrameValue) → own p l f ≡ false
-  own_nowhere off f = own_off p ok l f off.0 off.1
-
-  pub crossing_nowhere : OnHop p l None → crossing p l ≡ false
-  crossing_nowhere off =
-      or_from (on (forth p) p.len l) (on (back p) p.len l) (on_none (forth p) l p.len off.0)
-      (on_none (back p) l p.len (λ i lt e. off.1 (p.len - 1 - i) (omega arith) (sym (partner_twice (hop p (p.len - 1 - i))) ∙ ap partner e)))
+      at : (b : Bool) (k : ℕ) → k < p.len → l ≡ (way_of b p).at k → Marked p l (Some ((way_of b p).label k))
+      at true k lt e = mark_back (p.len - 1 - k) (omega arith) (sym (partner_twice (hop p (p.len - 1 - k))) ∙ ap partner (sym e))
+      at false k lt e = mark_forth k lt (sym e)
 
 pub tops_none : (k : ℕ) (es : List Entry) → None ≡ top_of es → tops k es ≡ false
 tops_none k [] e = refl

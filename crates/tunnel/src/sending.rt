@@ -16,6 +16,7 @@ use frame::{Entry, Frame, Refusal};
 use plant::{Plant, label_kept};
 
 // Sends below, on a line under the tunnel's own the frame itself, on one of these the frame as it enters the direction.
+// Here and in a poll the plant and the path go side by side: a fact kept beside a `&mut` is not covered by the prover.
 pub(crate) fn send_open<P: Plant>(
     below: &mut P,
     path: &Path,

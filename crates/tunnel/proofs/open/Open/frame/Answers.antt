@@ -1,10 +1,10 @@
-use Rattle.std.proofs.Common.{◌≡◌, ◌+◌, ◌-◌, ◌<◌, ◌≤◌, ltb, length, get_or, sym, ap, ◌∙◌, subst, arith}
+use Rattle.std.proofs.Common.{None, ◌≡◌, ◌+◌, ◌-◌, ◌<◌, ◌≤◌, ltb, length, get_or, sym, ap, ◌∙◌, subst, arith}
 use lib.ListN.{length-map}
 use Rattle.std.proofs.lemmas.List.{get_or-map}
 use Rattle.frame.specs.Frames.{frame_value}
 use Rattle.plant.specs.Questions.{no_frame}
 use Rattle.tunnel.specs.Tunnels.{keep, top_is, popped, gather, hop_frames, way_of}
-use Rattle.tunnel.specs.Paths.{own_nowhere}
+use Rattle.tunnel.specs.Paths.{marked}
 use Rattle.tunnel.proofs.Reading.{OwnLine, hop_plain, free_list, way_list, hop_hit, hop_skip, waits_there, waits_is}
 use Rattle.tunnel.proofs.open.Open.frame.Goals as goal
 
@@ -30,7 +30,7 @@ unwrap-requires g c =
     let p = t.path.now in
     let v = g.P.Plant.value t.below.now in
     let lt : c.args.line < v.shape.lines = omega (arith, t.ok.path.below) in
-    let e = free_list p v c.args.line lt (own_nowhere p t.ok.path.links c.args.line c.in-None.ensures) in
+    let e = free_list p v c.args.line lt (marked p t.ok.path.links c.args.line None c.in-None.ensures).1 in
     waits_there v c.args.line c.args.place c.waiting.result c.waiting.ensures lt (subst (λ xs. c.args.place < length xs) e c.requires.place)
 
 pub returns-in-None : goal.returns-in-None
@@ -39,7 +39,7 @@ returns-in-None g c =
     let p = t.path.now in
     let v = g.P.Plant.value t.below.now in
     let lt : c.args.line < v.shape.lines = omega (arith, t.ok.path.below) in
-    let e = free_list p v c.args.line lt (own_nowhere p t.ok.path.links c.args.line c.in-None.ensures) in
+    let e = free_list p v c.args.line lt (marked p t.ok.path.links c.args.line None c.in-None.ensures).1 in
     waits_is v c.args.line c.args.place c.waiting.result c.waiting.ensures c.unwrap.result c.unwrap.ensures ∙ ap (λ xs. get_or xs c.args.place no_frame) (sym e)
 
 pub loop-k-init : goal.loop-k-init

@@ -1,6 +1,6 @@
-use Rattle.std.proofs.Common.{◌≡◌, suc, ◌+◌, ◌<◌, ltb, length, sym, refl, ap, ◌∙◌, add-one, arith, length-append}
+use Rattle.std.proofs.Common.{None, ◌≡◌, suc, ◌+◌, ◌<◌, ltb, length, sym, refl, ap, ◌∙◌, add-one, arith, length-append}
 use Rattle.tunnel.specs.Tunnels.{gather, hop_frames, way_of}
-use Rattle.tunnel.specs.Paths.{own_nowhere}
+use Rattle.tunnel.specs.Paths.{marked}
 use Rattle.tunnel.proofs.Reading.{OwnLine, hop_waits, free_list, front_small, way_list, is_told, told_is}
 use Rattle.tunnel.proofs.open.Open.waits.Goals as goal
 
@@ -39,7 +39,7 @@ returns-in-None g c =
     let v = g.P.Plant.value t.below.now in
     let lt : c.args.line < v.shape.lines = omega (arith, t.ok.path.below) in
     told_is v.shape c.args.line (length (v.waiting c.args.line)) c.waits.result lt c.waits.ensures c.unwrap-all.result c.unwrap-all.ensures
-    ∙ ap length (sym (free_list p v c.args.line lt (own_nowhere p t.ok.path.links c.args.line c.in-None.ensures)))
+    ∙ ap length (sym (free_list p v c.args.line lt (marked p t.ok.path.links c.args.line None c.in-None.ensures).1))
 
 pub loop-index-init : goal.loop-index-init
 loop-index-init g c = refl

@@ -1,15 +1,15 @@
-use Rattle.std.proofs.Common.{sym, ◌∙◌, subst}
+use Rattle.std.proofs.Common.{Some, None, sym, ◌∙◌, subst}
 use Rattle.frame.specs.Frames.{frame_value}
 use Rattle.tunnel.specs.Tunnels.{way_of}
 use Rattle.tunnel.specs.Inner.{Owned}
-use Rattle.tunnel.specs.Paths.{own_here_is, own_nowhere, own_bare, tops_none, tops_other}
+use Rattle.tunnel.specs.Paths.{marked, own_bare, tops_none, tops_other}
 use Rattle.tunnel.proofs.path.Path.owner.Goals as goal
 
 pub returns-in_err-hop : goal.returns-in_err-hop
 returns-in_err-hop c =
     let p = c.args.self.now in
     let f = frame_value c.args.frame.now in
-    subst (Owned p c.args.line f) (sym c.from_residual.ensures) (own_nowhere p c.requires.links c.args.line c.in_err-hop.ensures f)
+    subst (Owned p c.args.line f) (sym c.from_residual.ensures) ((marked p c.requires.links c.args.line None c.in_err-hop.ensures).1 f)
 
 pub returns-in_err-top : goal.returns-in_err-top
 returns-in_err-top c =
@@ -22,5 +22,5 @@ returns-else-top-label c =
     let p = c.args.self.now in
     let f = frame_value c.args.frame.now in
     let h = c.in_ok-hop.hop in
-    own_here_is p c.requires.links c.args.line h c.in_ok-hop.ensures f
+    (marked p c.requires.links c.args.line (Some h) c.in_ok-hop.ensures).1 f
     ∙ tops_other ((way_of h.back p).label h.index) f.stack c.in_ok-top.top c.in_ok-top.ensures (λ e. c.if-top-label.false (e ∙ sym c.label.ensures))
