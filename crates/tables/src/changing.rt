@@ -17,6 +17,7 @@ impl Tables {
         self.labels.refresh(may, router, fec);
     }
 
+    // Sets the owner mark alone.
     fn mark(&mut self, router: Router, fec: FecNumber, on: bool)
         ensures { Turned self.old (λ t. with_routes (put2 t.owner router fec on) t.hop t) self.new }
     {
@@ -31,6 +32,7 @@ impl Tables {
         self.refresh(router, fec);
     }
 
+    // Sets the next hop alone.
     fn point(&mut self, router: Router, fec: FecNumber, line: Option<usize>)
         requires { is_below self.old.routes.lines line ≡ true }
         ensures { Turned self.old (λ t. with_routes t.owner (put2 t.hop router fec line) t) self.new }
@@ -47,6 +49,7 @@ impl Tables {
         self.refresh(router, fec);
     }
 
+    // Sets the remote label alone.
     fn note(&mut self, line: Line, fec: FecNumber, label: Option<Label>)
         ensures { Turned self.old (λ t. with_remote (put2 t.remote line fec label) t.due t) self.new }
     {
@@ -61,6 +64,7 @@ impl Tables {
         self.refresh(router, fec);
     }
 
+    // A release of a label falls due.
     fn owe(&mut self, line: Line, fec: FecNumber, label: Label)
         ensures { Turned self.old (λ t. with_remote t.remote (put2 t.due line label (Some fec)) t) self.new }
     {

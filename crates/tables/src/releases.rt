@@ -5,6 +5,7 @@ ghost use Rattle.tables.specs.Grids.{dues_of, first_due};
 
 use grid::{Grid, Label, Line};
 
+// Its new, get and set are those of Remotes at other types: each type names what its grid holds, and they are one line each.
 #[derive(Drop)]
 pub struct Releases {
     due: Grid<Option<u32>, 48, 16, 80, 3072>,

@@ -4,7 +4,7 @@ ghost use Rattle.plant.specs.Plants.{Shape, partner};
 ghost use Rattle.model.specs.Tables.{put2, with_labels, with_remote};
 ghost use Rattle.model.specs.Messages.{next_message};
 ghost use Rattle.labels.specs.Numbers.{stage_number};
-ghost use Rattle.labels.specs.Wirings.{Wired, begin_of};
+ghost use Rattle.labels.specs.Wirings.{Wired};
 ghost use Rattle.tables.specs.Reading.{tables_of, Turned};
 ghost use Rattle.tables.specs.Sending.{message_of, after_sent, news_in, first_news};
 
@@ -16,21 +16,14 @@ use labels::Stage;
 use plant::partner_of;
 
 impl Tables {
-    // The router where a line begins.
-    fn beginning(&self, line: usize) -> usize
-        requires { line < self.now.labels.wiring.lines }
-        ensures { begin_of self.now.labels.wiring line ≡ Some result }
-    {
-        self.begin(line).unwrap()
-    }
-
     // News of the smallest label at a stage on the partner of a line, if there is one.
     fn news(&self, line: usize, kind: Kind, stage: Stage) -> Option<Message>
         requires { line < self.now.labels.wiring.lines }
         ensures { (S : Shape) → Wired self.now.labels.wiring S → result ≡ news_in S line (tables_of self.now) kind stage }
     {
         let label = self.labels.first_at(partner_of(line), stage)?;
-        let fec = self.labels.fec_of(self.beginning(line), label.number());
+        let router = self.begin(line).unwrap();
+        let fec = self.labels.fec_of(router, label.number());
         Some(Message { kind, fec, label })
     }
 

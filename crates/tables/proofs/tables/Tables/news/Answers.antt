@@ -19,7 +19,7 @@ returns c S w =
     let l = c.in_ok-label.label in
     let is : Some l ≡ c.first_at.result = search rules in
     let begins = w.from c.args.line (omega (arith, w.lines, c.requires)) in
-    let from : c.beginning.result ≡ (S.line c.args.line).from = cc (c.beginning.ensures, begins) in
+    let from : c.unwrap-router.result ≡ (S.line c.args.line).from = search (rules, begins) in
     let fec : c.fec_of-fec.result ≡ fec_of (t.status (S.line c.args.line).from l) =
     c.fec_of-fec.ensures (unlabelled s) ∙ ap₂ (λ r m. fec_of (t.status r m)) from c.number.ensures.same in
     let news : ℕ → Option Message = λ f. Some (record { kind = c.args.kind; fec = f; label = l }) in
