@@ -6,7 +6,6 @@ use Rattle.plant.specs.Plants.{PlantValue}
 use Rattle.lookup.specs.declared.address.Address.{Address}
 use Rattle.model.specs.Calls.{State, Call, Answer, refused, refusal}
 use Rattle.model.specs.History.{Did}
-use Rattle.model.proofs.Firsts.{never}
 use Rattle.model.proofs.Citing.{did_refused, did_stand}
 use Rattle.network.specs.declared.routers.Routers.{Routers}
 use Rattle.network.specs.Networks.{plan_of, state_of, Keeps}
@@ -29,11 +28,11 @@ module _ {X : Type 0} (n : Routers) (v : PlantValue) (c : Call Address) (answer 
       go true h =
           let same : 22 ≡ refusal_number e = cc h in
           subst (λ k. Did true (plan_of n.plan) (state_of n v) c (refused k) (state_of n v)) same (did_stand (plan_of n.plan) (state_of n v) c)
-      go false h = absurd (never (cc))
+      go false h = cc
 
 -- a network that does not refuse so runs
 pub going : (b : Bool) → None ≡ cond {A = Option ℕ} b (Some 22) None → b ≡ false
-going true q = absurd (never (cc))
+going true q = cc
 going false q = refl
 
 module _ (n : Routers) (v : PlantValue) (c : Call Address) where

@@ -9,16 +9,12 @@ use Rattle.model.specs.Packets as packets
 use Rattle.model.specs.Calls.{done, polled, inject, poll, record_of, inject_refusal, entry_verdict, end_by, send_by, arriving, polling, only}
 use Rattle.model.specs.History.{Did, Turns, Sending}
 use Rattle.model.proofs.Citing.{did_act, did_poll}
-use Rattle.labels.specs.Wirings.{Wired}
 use Rattle.tables.specs.Reading.{tables_of}
 use Rattle.book.specs.Books.{book_of}
 use Rattle.network.specs.declared.routers.Routers.{Routers}
-use Rattle.network.specs.Networks.{plan_of, state_of, wiring_of, Fits, Keeps}
+use Rattle.network.specs.Networks.{plan_of, state_of}
 use Rattle.network.specs.Dealing.{Dealt, Seen, arrival_of}
 use Rattle.network.proofs.Citing.{runs}
-
-pub fits_then : (n n' : Routers) (v w : PlantValue) → Fits n v → Keeps n n' → w.shape ≡ v.shape → Fits n' w
-fits_then n n' v w f k q = subst (λ x. Wired x w.shape) (sym k.tables.wiring) (subst (Wired (wiring_of n)) (sym q) f)
 
 -- a packet came in as number p and was dealt with
 pub injected : (n n₁ n₂ : Routers) (v w : PlantValue) (r : ℕ) (a : Address) (ttl p : ℕ) (y : packets.Verdict) → n.still ≡ false

@@ -10,7 +10,7 @@ use Rattle.lookup.specs.declared.plan.Plan.{Plan}
 use Rattle.lookup.specs.Plans.{routers_of}
 use Rattle.model.specs.Tables.{first, is_some}
 use Rattle.model.specs.History.{is_outside, is_still}
-use Rattle.model.proofs.Firsts.{never, first_none, first_missing}
+use Rattle.model.proofs.Firsts.{first_none, first_missing}
 use Rattle.labels.specs.declared.wiring.Wiring.{Wiring}
 use Rattle.labels.specs.Wirings.{Wired, end_of}
 use Rattle.labels.proofs.Shapes.{no_end}
@@ -40,7 +40,7 @@ module _ (p : ℕ → Bool) (n : ℕ) where
   some_first e lt passes = go (first p 0 n) refl
     where
       go : (o : Option ℕ) → first p 0 n ≡ o → true ≡ is_some o
-      go None none = absurd (never (let no = first_none p 0 n none e (omega arith) (omega arith) in cc))
+      go None none = let no = first_none p 0 n none e (omega arith) (omega arith) in cc (passes, no)
       go (Some l) found = refl
 
   pub none_first : ((e : ℕ) → e < n → p e ≡ false) → false ≡ is_some (first p 0 n)
@@ -48,12 +48,12 @@ module _ (p : ℕ → Bool) (n : ℕ) where
 
 -- both parts of a test that fails
 or_none : (a b : Bool) → (a || b) ≡ false → (a ≡ false) × (b ≡ false)
-or_none true b q = absurd (never (cc))
+or_none true b q = cc
 or_none false b q = (refl, q)
 
 not_some : {X : Type 0} (o : Option X) → is_some o ≡ false → o ≡ None
 not_some None q = refl
-not_some (Some x) q = absurd (never (cc))
+not_some (Some x) q = cc
 
 abbrev lines_out : Plan → PlantValue → Option ℕ
 lines_out p v = first (is_outside (plan_of p) v.shape) 0 v.shape.lines
@@ -76,4 +76,4 @@ inside p v w wired q e r d = ⊎_elim within beyond (cases_lt e v.shape.lines)
     beyond : v.shape.lines ≤ e → r < routers_of p
     beyond le =
         let gone : end_of w e ≡ None = no_end w e (let n = wired.lines in omega arith) in
-        absurd (never (cc (d, gone)))
+        cc (d, gone)

@@ -12,7 +12,6 @@ use Rattle.model.specs.Messages.{Due, message, due_or, next_message}
 use Rattle.model.specs.Packets.{is_full}
 use Rattle.model.specs.Calls.{State, done, tell, tell_refusal, tell_next}
 use Rattle.model.specs.History.{Did, accepted}
-use Rattle.model.proofs.Firsts.{never}
 use Rattle.model.proofs.Citing.{did_act}
 use Rattle.tables.specs.declared.message.Message.{Message}
 use Rattle.tables.specs.declared.tables.Tables.{Tables}
@@ -41,16 +40,16 @@ pub next_after : (S : Shape) (e : ℕ) (t : tables) (m : Due) → next_message S
 next_after S e t m q =
     due_or_lem _ _ _ m (Proper e t) (λ l. refl)
     (λ q₂. due_or_lem _ _ _ m (Proper e t) (λ l. refl)
-    (λ q₃. due_or_lem _ _ _ m (Proper e t) (λ l. refl) (λ z. absurd (never (cc))) q₃) q₂) q
+    (λ q₃. due_or_lem _ _ _ m (Proper e t) (λ l. refl) (λ z. cc) q₃) q₂) q
 
 -- the program's message is the one that is due
 pub due_message : (o : Option Due) (x : Message) → Some x ≡ message_of o → (m : Due) × (o ≡ Some m) × (x ≡ record { kind = m.kind; fec = m.fec; label = m.label })
-due_message None x q = absurd (never (cc))
+due_message None x q = cc
 due_message (Some m) x q = (m, refl, cc q)
 
 pub no_message : (o : Option Due) → None ≡ message_of o → o ≡ None
 no_message None q = refl
-no_message (Some m) q = absurd (never (cc))
+no_message (Some m) q = cc
 
 module _ (n : Routers) (v : PlantValue) (e : ℕ) (still : n.still ≡ false) where
   abbrev next : Option Due
