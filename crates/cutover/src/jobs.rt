@@ -1,47 +1,20 @@
 // The rehearsals.
-ghost use Rattle.std.specs.Prelude.{IfOk};
-ghost use Rattle.ring.specs.Rings.{RingSound};
-
 use crate::printing::print_book;
 use crate::steps::{Step, take_all};
-use anyhow::anyhow;
-use frame::{Frame, Kind, Stack};
 use lookup::{Address, Plan};
 use network::start;
 use ring::{Link, Ring};
 use tunnel::Tunnel;
 
-// A plant of these links, with as many places as all lines' caps add up to.
-fn ring_of(rt: &HostRuntime, links: &[Link]) -> anyhow::Result<Ring>
-    ensures { IfOk result (λ ring. RingSound ring) }
-{
-    let mut places = Vec::new(rt.alloc());
-    let blank = Frame {
-        kind: Kind::Data,
-        stack: Stack::new(),
-        a: 0,
-        b: 0,
-    };
-    for link in links {
-        for _ in 0..link.cap.min(32) {
-            places.push(blank)?;
-            places.push(blank)?;
-        }
-    }
-    Ok(Ring::new(links, places))
-}
-
 // A plan of so many routers, policy ordered, with the one FEC 10.0.0.0/8.
-fn plan_of(rt: &HostRuntime, routers: u32) -> anyhow::Result<Plan> {
+fn plan_of(rt: &impl AllocGlobal, routers: u32) -> anyhow::Result<Plan> {
     let mut plan = Plan::new(rt.alloc(), routers, 0)?;
-    match plan.add(Address::ipv4(0x0a00_0000), 8) {
-        Ok(_) => Ok(plan),
-        Err(_) => Err(anyhow!("the FEC was refused")),
-    }
+    let _ = plan.add(Address::ipv4(0x0a00_0000), 8)?;
+    Ok(plan)
 }
 
 // The way from router 0 to router 2 is cut over from router 1 to router 3, while packets are under way.
-pub fn over_a_ring(rt: &HostRuntime) -> anyhow::Result<()> {
+pub fn over_a_ring(rt: &(impl AllocGlobal + Print)) -> anyhow::Result<()> {
     println!(rt; "over a ring plant: router 0 to router 2, by router 1 and then by router 3")?;
     let links = [
         Link { a: 0, b: 1, cap: 2 },
@@ -49,7 +22,11 @@ pub fn over_a_ring(rt: &HostRuntime) -> anyhow::Result<()> {
         Link { a: 0, b: 3, cap: 2 },
         Link { a: 3, b: 2, cap: 2 },
     ];
-    let mut net = start(rt.alloc(), plan_of(rt, 4)?, ring_of(rt, &links)?)?;
+    let mut net = start(
+        rt.alloc(),
+        plan_of(rt, 4)?,
+        Ring::with_room(rt.alloc(), &links)?,
+    )?;
     take_all(rt, &mut net, &BY_ROUTER_1)?;
     take_all(rt, &mut net, &BY_ROUTER_3)?;
     take_all(rt, &mut net, &AFTERWARDS)?;
@@ -59,9 +36,9 @@ pub fn over_a_ring(rt: &HostRuntime) -> anyhow::Result<()> {
 
 // Labels are told from router 2 back to router 0; a packet is delivered, others are dropped.
 const BY_ROUTER_1: [Step; 14] = [
-    Step::Route(1, 0, 2),
-    Step::Route(0, 0, 0),
-    Step::Route(3, 0, 6),
+    Step::Route(1, 0, Some(2)),
+    Step::Route(0, 0, Some(0)),
+    Step::Route(3, 0, Some(6)),
     Step::Own(2, 0, 1),
     Step::Tell(3),
     Step::Poll(3),
@@ -82,9 +59,9 @@ const BY_ROUTER_3: [Step; 8] = [
     Step::Inject(0, 0x0a01_0203, 64),
     Step::Tell(5),
     Step::Poll(5),
-    Step::Route(0, 0, 4),
+    Step::Route(0, 0, Some(4)),
     Step::Inject(0, 0x0a01_0203, 64),
-    Step::Unroute(1, 0),
+    Step::Route(1, 0, None),
 ];
 
 // The old label is withdrawn and released; a line fills up.
@@ -101,13 +78,13 @@ const AFTERWARDS: [Step; 9] = [
 ];
 
 // The same FEC through a tunnel along lines 0 and 2.
-pub fn over_a_tunnel(rt: &HostRuntime) -> anyhow::Result<()> {
+pub fn over_a_tunnel(rt: &(impl AllocGlobal + Print)) -> anyhow::Result<()> {
     println!(rt; "over a tunnel from router 0 to router 2")?;
     let links = [Link { a: 0, b: 1, cap: 4 }, Link { a: 1, b: 2, cap: 4 }];
-    let plant = Tunnel::new(ring_of(rt, &links)?, &[0, 2], 2);
+    let plant = Tunnel::new(Ring::with_room(rt.alloc(), &links)?, &[0, 2], 2);
     let mut net = start(rt.alloc(), plan_of(rt, 3)?, plant)?;
     let steps = [
-        Step::Route(0, 0, 4),
+        Step::Route(0, 0, Some(4)),
         Step::Own(2, 0, 1),
         Step::Tell(5),
         Step::Poll(3),
@@ -123,7 +100,7 @@ pub fn over_a_tunnel(rt: &HostRuntime) -> anyhow::Result<()> {
 }
 
 // And through a tunnel over that tunnel.
-pub fn over_two_tunnels(rt: &HostRuntime) -> anyhow::Result<()> {
+pub fn over_two_tunnels(rt: &(impl AllocGlobal + Print)) -> anyhow::Result<()> {
     println!(rt;
         "over a tunnel from router 0 to router 3, over a tunnel from router 0 to router 2"
     )?;
@@ -132,10 +109,10 @@ pub fn over_two_tunnels(rt: &HostRuntime) -> anyhow::Result<()> {
         Link { a: 1, b: 2, cap: 4 },
         Link { a: 2, b: 3, cap: 4 },
     ];
-    let lower = Tunnel::new(ring_of(rt, &links)?, &[0, 2], 2);
+    let lower = Tunnel::new(Ring::with_room(rt.alloc(), &links)?, &[0, 2], 2);
     let mut net = start(rt.alloc(), plan_of(rt, 4)?, Tunnel::new(lower, &[6, 4], 1))?;
     let steps = [
-        Step::Route(0, 0, 8),
+        Step::Route(0, 0, Some(8)),
         Step::Own(3, 0, 1),
         Step::Tell(9),
         Step::Poll(5),

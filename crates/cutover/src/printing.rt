@@ -1,55 +1,74 @@
-// Records and totals in print.
+// Answers, records and totals in print.
 use book::Record;
-use frame::{Kind, Refusal};
+use frame::Kind;
 use lookup::Address;
-use model::Fate;
+use model::{Fate, Met};
 use network::Network;
 use plant::Plant;
-use std::io;
+use std::{fmt, io};
 
-pub fn kind_name(kind: Kind) -> &'static str {
-    match kind {
-        Kind::Data => "data",
-        Kind::Mapping => "mapping",
-        Kind::Withdraw => "withdraw",
-        Kind::Release => "release",
+// What a call that is not refused comes to.
+#[derive(Clone, Copy)]
+pub enum Answer {
+    Done,
+    // the number of a packet that came in
+    Packet(usize),
+    // the kind of the message that was sent, if one was due
+    Told(Option<Kind>),
+    // what a poll met, and the line that it came out of
+    Met(Met, usize),
+}
+
+impl fmt::Display for Answer {
+    fn fmt<W: fmt::Write>(&self, f: &mut fmt::Formatter<W>) -> fmt::Result {
+        match *self {
+            Answer::Done => write!(f, "done"),
+            Answer::Packet(packet) => write!(f, "packet {packet}"),
+            Answer::Told(Some(kind)) => write!(f, "{kind}"),
+            Answer::Told(None) => write!(f, "nothing due"),
+            Answer::Met(Met::Idle, _) => write!(f, "idle"),
+            Answer::Met(Met::Moved, _) => write!(f, "moved"),
+            Answer::Met(Met::Message, line) => write!(f, "message on line {line}"),
+            Answer::Met(Met::Packet, line) => write!(f, "packet on line {line}"),
+            Answer::Met(Met::Stray, line) => write!(f, "stray on line {line}"),
+        }
     }
 }
 
-pub fn print_refusal(rt: &HostRuntime, refusal: Refusal) -> io::Result<()> {
-    let number = refusal.number();
-    println!(rt; "refused with {number}")
-}
+// A record in print: how a packet came in and how it ended.
+#[derive(Clone, Copy)]
+struct Shown(Record<Address>);
 
-// Prints how a packet came in and how it ended.
-fn print_record(rt: &HostRuntime, found: Record<Address>) -> io::Result<()> {
-    let number = found.number;
-    let ingress = found.ingress;
-    print!(rt; "packet {number}: in at router {ingress}, ")?;
-    match found.fec {
-        Some(fec) => print!(rt; "FEC {fec}, ")?,
-        None => print!(rt; "no FEC, ")?,
-    }
-    let router = found.router.unwrap_or(0);
-    match found.fate {
-        Fate::Waiting => println!(rt; "waiting"),
-        Fate::Delivered => println!(rt; "delivered at router {router}"),
-        Fate::Dropped => match found.cause {
-            Some(cause) => {
-                let number = cause.number();
-                println!(rt; "dropped at router {router} with cause {number}")
-            }
-            None => println!(rt; "dropped at router {router}"),
-        },
+impl fmt::Display for Shown {
+    fn fmt<W: fmt::Write>(&self, f: &mut fmt::Formatter<W>) -> fmt::Result {
+        let found = self.0;
+        write!(
+            f,
+            "packet {}: in at router {}, ",
+            found.number, found.ingress
+        )?;
+        match found.fec {
+            Some(fec) => write!(f, "FEC {fec}, ")?,
+            None => write!(f, "no FEC, ")?,
+        }
+        let router = found.router.unwrap_or(0);
+        match (found.fate, found.cause) {
+            (Fate::Waiting, _) => write!(f, "waiting"),
+            (Fate::Delivered, _) => write!(f, "delivered at router {router}"),
+            (Fate::Dropped, Some(cause)) => write!(
+                f,
+                "dropped at router {router} with cause {}",
+                cause.number()
+            ),
+            (Fate::Dropped, None) => write!(f, "dropped at router {router}"),
+        }
     }
 }
 
 // Prints all records, and the totals.
-pub fn print_book<P: Plant>(rt: &HostRuntime, net: &Network<P>) -> io::Result<()> {
-    for packet in 0..512 {
-        if let Some(found) = net.packet_record(packet) {
-            print_record(rt, found)?;
-        }
+pub fn print_book<P: Plant>(rt: &impl Print, net: &Network<P>) -> io::Result<()> {
+    for found in (0..512).filter_map(|packet| net.packet_record(packet)) {
+        println!(rt; "{}", Shown(found))?;
     }
     let delivered = net.count(Fate::Delivered);
     let dropped = net.count(Fate::Dropped);

@@ -1,126 +1,76 @@
 // The steps of a rehearsal, each a call of the network, and doing them.
-ghost use Rattle.network.specs.Networks.{Fits};
-
-use crate::printing::{kind_name, print_refusal};
+use crate::printing::Answer;
+use frame::Refusal;
 use lookup::Address;
-use model::Met;
 use network::Network;
 use plant::Plant;
-use std::io;
+use std::{fmt, io};
 
 #[derive(Clone, Copy)]
 pub enum Step {
+    // a router, a FEC and a mark
     Own(usize, u32, usize),
-    Route(usize, u32, usize),
-    Unroute(usize, u32),
+    // a router, a FEC and the line of the next hop
+    Route(usize, u32, Option<usize>),
+    // a router, the bits of an IPv4 address and a TTL
     Inject(usize, u32, usize),
+    // a line
     Tell(usize),
+    // a port
     Poll(usize),
 }
 
-fn route<P: Plant>(
-    rt: &HostRuntime,
-    net: &mut Network<P>,
-    router: usize,
-    fec: u32,
-    line: Option<usize>,
-) -> io::Result<()>
-    requires { P.Plant.sound net.old.plant × Fits net.old.routers (P.Plant.value net.old.plant) }
-    ensures { P.Plant.sound net.new.plant × Fits net.new.routers (P.Plant.value net.new.plant) }
-{
-    match line {
-        Some(line) => print!(rt; "route: router {router}, FEC {fec}, line {line}: ")?,
-        None => print!(rt; "route: router {router}, FEC {fec}, no line: ")?,
-    }
-    match net.route(router, fec, line) {
-        Ok(()) => println!(rt; "done"),
-        Err(refusal) => print_refusal(rt, refusal),
-    }
-}
-
-fn own<P: Plant>(
-    rt: &HostRuntime,
-    net: &mut Network<P>,
-    router: usize,
-    fec: u32,
-    mark: usize,
-) -> io::Result<()>
-    requires { P.Plant.sound net.old.plant × Fits net.old.routers (P.Plant.value net.old.plant) }
-    ensures { P.Plant.sound net.new.plant × Fits net.new.routers (P.Plant.value net.new.plant) }
-{
-    print!(rt; "own: router {router}, FEC {fec}, mark {mark}: ")?;
-    match net.own(router, fec, mark) {
-        Ok(()) => println!(rt; "done"),
-        Err(refusal) => print_refusal(rt, refusal),
+impl fmt::Display for Step {
+    fn fmt<W: fmt::Write>(&self, f: &mut fmt::Formatter<W>) -> fmt::Result {
+        match *self {
+            Step::Own(router, fec, mark) => write!(
+                f,
+                "own: router {router}, FEC {fec}, mark {mark}"
+            ),
+            Step::Route(router, fec, Some(line)) => write!(
+                f,
+                "route: router {router}, FEC {fec}, line {line}"
+            ),
+            Step::Route(router, fec, None) => write!(
+                f,
+                "route: router {router}, FEC {fec}, no line"
+            ),
+            Step::Inject(router, bits, ttl) => write!(
+                f,
+                "inject: router {router}, address {bits:08x}, TTL {ttl}"
+            ),
+            Step::Tell(line) => write!(f, "tell: line {line}"),
+            Step::Poll(port) => write!(f, "poll: port {port}"),
+        }
     }
 }
 
-fn inject<P: Plant>(
-    rt: &HostRuntime,
-    net: &mut Network<P>,
-    router: usize,
-    bits: u32,
-    ttl: usize,
-) -> io::Result<()>
-    requires { P.Plant.sound net.old.plant × Fits net.old.routers (P.Plant.value net.old.plant) }
-    ensures { P.Plant.sound net.new.plant × Fits net.new.routers (P.Plant.value net.new.plant) }
-{
-    print!(rt; "inject: router {router}, address {bits:08x}, TTL {ttl}: ")?;
-    match net.inject(router, Address::ipv4(bits), ttl) {
-        Ok(packet) => println!(rt; "packet {packet}"),
-        Err(refusal) => print_refusal(rt, refusal),
-    }
-}
-
-fn tell<P: Plant>(rt: &HostRuntime, net: &mut Network<P>, line: usize) -> io::Result<()>
-    requires { P.Plant.sound net.old.plant × Fits net.old.routers (P.Plant.value net.old.plant) }
-    ensures { P.Plant.sound net.new.plant × Fits net.new.routers (P.Plant.value net.new.plant) }
-{
-    print!(rt; "tell: line {line}: ")?;
-    match net.tell(line) {
-        Ok(Some(kind)) => println!(rt; "{}", kind_name(kind)),
-        Ok(None) => println!(rt; "nothing due"),
-        Err(refusal) => print_refusal(rt, refusal),
-    }
-}
-
-fn poll<P: Plant>(rt: &HostRuntime, net: &mut Network<P>, port: usize) -> io::Result<()>
-    requires { P.Plant.sound net.old.plant × Fits net.old.routers (P.Plant.value net.old.plant) }
-    ensures { P.Plant.sound net.new.plant × Fits net.new.routers (P.Plant.value net.new.plant) }
-{
-    print!(rt; "poll: port {port}: ")?;
-    match net.poll(port) {
-        Ok((Met::Idle, _)) => println!(rt; "idle"),
-        Ok((Met::Moved, _)) => println!(rt; "moved"),
-        Ok((Met::Message, line)) => println!(rt; "message on line {line}"),
-        Ok((Met::Packet, line)) => println!(rt; "packet on line {line}"),
-        Ok((Met::Stray, line)) => println!(rt; "stray on line {line}"),
-        Err(refusal) => print_refusal(rt, refusal),
-    }
-}
-
-// Does one step, and prints it.
-fn take<P: Plant>(rt: &HostRuntime, net: &mut Network<P>, step: Step) -> io::Result<()>
-    requires { P.Plant.sound net.old.plant × Fits net.old.routers (P.Plant.value net.old.plant) }
-    ensures { P.Plant.sound net.new.plant × Fits net.new.routers (P.Plant.value net.new.plant) }
-{
+// Makes the call of a step.
+fn call<P: Plant>(net: &mut Network<P>, step: Step) -> Result<Answer, Refusal> {
     match step {
-        Step::Own(router, fec, mark) => own(rt, net, router, fec, mark),
-        Step::Route(router, fec, line) => route(rt, net, router, fec, Some(line)),
-        Step::Unroute(router, fec) => route(rt, net, router, fec, None),
-        Step::Inject(router, bits, ttl) => inject(rt, net, router, bits, ttl),
-        Step::Tell(line) => tell(rt, net, line),
-        Step::Poll(port) => poll(rt, net, port),
+        Step::Own(router, fec, mark) => net.own(router, fec, mark).map(|()| Answer::Done),
+        Step::Route(router, fec, line) => net.route(router, fec, line).map(|()| Answer::Done),
+        Step::Inject(router, bits, ttl) => net
+            .inject(router, Address::ipv4(bits), ttl)
+            .map(Answer::Packet),
+        Step::Tell(line) => net.tell(line).map(Answer::Told),
+        Step::Poll(port) => net.poll(port).map(|(met, line)| Answer::Met(met, line)),
+    }
+}
+
+// Does one step, and prints it with what it came to.
+fn take<P: Plant>(rt: &impl Print, net: &mut Network<P>, step: Step) -> io::Result<()> {
+    print!(rt; "{step}: ")?;
+    match call(net, step) {
+        Ok(answer) => println!(rt; "{answer}"),
+        Err(refusal) => println!(rt; "{refusal}"),
     }
 }
 
 // Does the steps in their order.
-pub fn take_all<P: Plant>(rt: &HostRuntime, net: &mut Network<P>, steps: &[Step]) -> io::Result<()>
-    requires { P.Plant.sound net.old.plant × Fits net.old.routers (P.Plant.value net.old.plant) }
-    ensures { P.Plant.sound net.new.plant × Fits net.new.routers (P.Plant.value net.new.plant) }
-{
-    for i in 0..steps.len() {
-        take(rt, net, steps[i])?;
+pub fn take_all<P: Plant>(rt: &impl Print, net: &mut Network<P>, steps: &[Step]) -> io::Result<()> {
+    for step in steps {
+        take(rt, net, *step)?;
     }
     Ok(())
 }
