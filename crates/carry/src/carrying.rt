@@ -55,6 +55,7 @@ impl<P: Plant> Carrier<P> {
 
     // Prints the lines of the plant.
     pub fn describe(&self, rt: &impl Print) -> io::Result<()> {
+        // over numbers: a plant lends no list of its lines, or of its ports
         for line in 0..self.plant.lines() {
             let (from, to) = self.plant.ends(line).unwrap();
             let cap = self.plant.cap(line).unwrap();

@@ -1,5 +1,5 @@
 // Answers, records and totals in print.
-use book::Record;
+use book::{MOST_PACKETS, Record};
 use frame::Kind;
 use lookup::Address;
 use model::{Fate, Met};
@@ -67,7 +67,7 @@ impl fmt::Display for Shown {
 
 // Prints all records, and the totals.
 pub fn print_book<P: Plant>(rt: &impl Print, net: &Network<P>) -> io::Result<()> {
-    for found in (0..512).filter_map(|packet| net.packet_record(packet)) {
+    for found in (0..MOST_PACKETS).filter_map(|packet| net.packet_record(packet)) {
         println!(rt; "{}", Shown(found))?;
     }
     let delivered = net.count(Fate::Delivered);

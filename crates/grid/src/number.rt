@@ -54,6 +54,7 @@ impl Label {
         requires { F.IsAlwaysCallable test }
         ensures { (p : ℕ → Bool) → ((l : ℕ) → 16 ≤ l → l < 80 → (b : Bool) → F.post test l b → b ≡ p l) → result ≡ first_label p }
     {
+        // by `for`: the promise is about the test's own answers, and each label is made where its range is known
         for number in 16..80 {
             let label = Number { number };
             if test(label) {

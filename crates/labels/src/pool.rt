@@ -8,6 +8,7 @@ use crate::grant::Grant;
 use crate::status::Status;
 use grid::{Grid, Label, Router};
 
+// Its new, get and put are those of Stages over another grid: one line each, which names what the cells say.
 #[derive(Drop)]
 pub struct Pool {
     pub(crate) at: Grid<Status, 16, 16, 80, 1024>,

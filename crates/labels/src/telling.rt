@@ -31,6 +31,7 @@ impl Stages {
         ensures { (S : Shape) (c : ℕ → ℕ) → Wired wiring.now S → Follows (F.post news) c
             → stages_of self.new ≡ on_lines_into S router label c (stages_of self.old) }
     {
+        // a loop and no iterator: each line's stage is written into self
         for line in 0..wiring.lines {
             if wiring.leads_into(line, router.number()) {
                 let stage = news(self.get(line, label.number()));

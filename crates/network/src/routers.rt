@@ -8,7 +8,7 @@ use tables::Tables;
 #[derive(Drop)]
 pub struct Routers {
     pub(crate) plan: Plan,
-    // the network stands still, and refuses every call
+    // The network stands still, and refuses every call. A flag: it is asked about its tables and book like one that runs.
     pub(crate) still: bool,
     pub(crate) tables: Tables,
     pub(crate) book: Book<Address>,

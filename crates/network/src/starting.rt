@@ -22,6 +22,7 @@ fn wiring_of<P: Plant>(plant: &P) -> Wiring
     ensures { Wired result (P.value plant.now).shape }
 {
     let mut wiring = Wiring::none();
+    // a loop and no iterator: each line is added to the wiring
     for line in 0..plant.lines() {
         let (from, to) = plant.ends(line).unwrap();
         let _ = wiring.add(from, to);

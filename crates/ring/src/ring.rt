@@ -11,6 +11,7 @@ pub struct Ring {
     pub(crate) rows: [Row; 32],
     pub(crate) lines: usize,
     pub(crate) places: Vec<Frame>,
+    // an Option beside the rows and no Result of them: a plant with a fault is a plant too, without lines
     pub(crate) fault: Option<Refusal>,
     ghost sound: { RingOk rows lines places.items },
 }

@@ -63,7 +63,7 @@ impl Tables {
         self.labels.stage(line, label)
     }
 
-    // The router where a line begins.
+    // The router where a line begins. Two questions, as the wiring has: most callers need one end only.
     pub fn begin(&self, line: usize) -> Option<usize>
         ensures { result ≡ begin_of self.now.labels.wiring line }
     {

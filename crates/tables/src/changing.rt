@@ -1,4 +1,5 @@
-// What own, route and arriving messages do to the tables.
+// What own, route and arriving messages do to the tables. Each sets one table alone and then refreshes; the tables differ in
+// what is set, and the model has a word for each.
 ghost use Rattle.std.specs.Prelude.{◌≡◌, ◌<◌, true, Some, None};
 ghost use Rattle.model.specs.Tables.{put2, refresh, with_routes, with_remote, with_labels, tidy, untold};
 ghost use Rattle.tables.specs.Rows.{is_below};

@@ -10,6 +10,7 @@ use labels::{Labels, Wiring};
 
 #[derive(Drop)]
 pub struct Tables {
+    // a flag, as in the model: the policy's enum is the plan's, which is no matter of the tables
     pub(crate) independent: bool,
     pub(crate) routes: Routes,
     pub(crate) remotes: Remotes,
