@@ -13,7 +13,7 @@ use crate::routers::Routers;
 use book::Book;
 use labels::Wiring;
 use lookup::{Address, Plan, Policy};
-use plant::Plant;
+use plant::{Plant, nothing_waits};
 use std::alloc::{AllocError, Global};
 use tables::Tables;
 
@@ -34,7 +34,7 @@ fn wiring_of<P: Plant>(plant: &P) -> Wiring
 fn is_busy<P: Plant>(plant: &P) -> bool
     ensures { result ≡ nat_lt 0 (total (P.value plant.now)) }
 {
-    (0..plant.lines()).any(|line| plant.waits(line).is_some_and(|waits| waits > 0))
+    !nothing_waits(plant)
 }
 
 // Whether a line has an end at a router outside the plan.

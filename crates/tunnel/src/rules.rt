@@ -1,7 +1,7 @@
 // The rules of a path over a plant, each decided.
 ghost use Rattle.std.specs.Prelude.{◌≡◌, ℕ, ◌+◌, ◌-◌, ◌<◌, ◌≤◌, ◌≢◌, ◌⊎◌, IfOk, MatchBool};
 ghost use Rattle.frame.specs.Numbers.{refused_by};
-ghost use Rattle.plant.specs.Plants.{partner, total};
+ghost use Rattle.plant.specs.Plants.{partner};
 ghost use Rattle.tunnel.specs.Held.{Exist, Chained, Apart, Open as OpenEnded, Wide};
 ghost use Rattle.tunnel.specs.Rules.{rule_broken};
 ghost use Rattle.tunnel.specs.Inner.{InRange, Through, Able};
@@ -9,7 +9,7 @@ ghost use Rattle.tunnel.specs.Inner.{InRange, Through, Able};
 use crate::laid::Laid;
 use crate::path::Path;
 use frame::Refusal;
-use plant::{Plant, partner_of};
+use plant::{Plant, nothing_waits, partner_of};
 
 // A path that keeps the rules, or else the first that it breaks.
 pub(crate) fn judge<P: Plant>(below: &P, path: Path) -> Result<Path, Refusal>
@@ -69,13 +69,6 @@ fn apart(path: &Path) -> bool
     true
 }
 
-// Whether nothing waits.
-fn still<P: Plant>(below: &P) -> bool
-    ensures { MatchBool result (total (P.value below.now) ≡ 0) (total (P.value below.now) ≢ 0) }
-{
-    (0..below.lines()).all(|line| below.waits(line) == Some(0))
-}
-
 impl<P: Plant> Laid<'_, P> {
     // Whether the lines lead on from one to the next, over each link at most once, and to another router.
     fn leads_through(&self) -> bool
@@ -113,7 +106,7 @@ impl<P: Plant> Laid<'_, P> {
         ensures { MatchBool result (Able (P.value self.now.below.now) self.now.path.now) (Able (P.value self.now.below.now) self.now.path.now → ⊥) }
     {
         self.below.lines() <= 46
-            && still(self.below)
+            && nothing_waits(self.below)
             && self.below.depth() >= 2
             && self.below.kept() as usize >= 80 + self.path.len
             && self.wide()
