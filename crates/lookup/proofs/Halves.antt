@@ -26,7 +26,7 @@ module _ (hi lo len : ℕ) where
       ap (λ x. both % 2 ^ x) s ∙ mod-pow-add both (64 - len) 64
       ∙ ap (λ x. (x % 2 ^ (64 - len)) * 2 ^ 64 + both % 2 ^ 64) a ∙ ap (λ x. (hi % 2 ^ (64 - len)) * 2 ^ 64 + x) b
 
-behind_halves_lem : (hi lo len : ℕ) → lo < 2 ^ 64 → behind_halves hi lo len ≡ one_behind 128 (hi * 2 ^ 64 + lo) len
+pub behind_halves_lem : (hi lo len : ℕ) → lo < 2 ^ 64 → behind_halves hi lo len ≡ one_behind 128 (hi * 2 ^ 64 + lo) len
 behind_halves_lem hi lo len l =
     ⊎_elim
     (λ t. let e = last_low hi lo len t.1 in grind (arith, nat_tests))

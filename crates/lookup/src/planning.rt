@@ -52,7 +52,7 @@ impl Plan {
         Ok(Plan { setting, fecs })
     }
 
-    // Why the plan is void, if it is. An Option, since it is told of a plan that was made, and no call is refused by it.
+    // Why the plan is void, if it is. An Option, since to ask is no call that can be refused.
     pub fn fault(&self) -> Option<Refusal>
         ensures { told_by result ≡ (if void_of self.now then Some 7 else None) }
     {

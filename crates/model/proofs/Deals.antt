@@ -94,7 +94,7 @@ module _ {A : Type 0} {P : Plan A} {S : Shape} {s : State A} {p : ℕ} (m : InHa
 
   -- the packet ends here
   ending : (d : End) → d.packet ≡ p → is_fate Waiting d.fate ≡ false → Settled P S s.plant s.tables s.book None (Some d)
-  ending d dp z = unsent P S s.tables (settle (Some d) s.book) s.plant m.q (ended_keeps m.inv d dp m.found z)
+  ending d dp z = unsent P S s.tables (settle (Some d) s.book) s.plant m.q (ended_keeps m.inv d dp z)
 
   pub dropping : (r ttl : ℕ) (c : Cause) → Some c ≢ Some UnknownLabel → Dealt P S s p r ttl (drop c)
   dropping r ttl c n = record {
@@ -118,7 +118,7 @@ module _ {A : Type 0} {P : Plan A} {S : Shape} {s : State A} {p : ℕ} (m : InHa
       after = λ sent w h.
           let y : Item = good (packet p l (ttl - 1)) in
           let small = remote_range m.inv.wired le f l rm in
-          let j = joins m.inv y le fl (lt-leb S.kept l (omega (arith, small)), law.depth_least) h in
+          let j = joins y m.inv.shape le fl (lt-leb S.kept l (omega (arith, small)), law.depth_least) h in
           let same : fec_by s.book p ≡ f = ap fec_in m.found ∙ ap the xf in (
             put m.q e (m.q e ++ y ∷ []),
             forwarded_keeps m.inv e l (ttl - 1) m.found xf le j

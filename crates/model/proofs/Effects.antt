@@ -101,7 +101,7 @@ module _ {A : Type 0} (P : Plan A) {S : Shape} {s : State A} {q : ℕ → List I
       closes = tt;
       no_stray = λ _ c. cc;
       after = λ sent w h.
-          let j = joins k d.item le fl (message_light S d.item m.kind m.fec m.label d.frame)
+          let j = joins d.item k.shape le fl (message_light S d.item m.kind m.fec m.label d.frame)
           (subst (λ z. Sending s.plant (Some (e, z)) sent w) (sym d.frame) h) in
           (put q e (q e ++ d.item ∷ []), sent_keeps k m.after e d.item w le j d.light d.wired);
     }

@@ -1,6 +1,6 @@
 -- The network in step with its plant: what a frame sent, a frame handed out, a packet taken in and a packet ended leave. Assumes the
 -- laws of a plant's lines.
-use Rattle.std.proofs.Common.{◌≡◌, ℕ, suc, ◌+◌, ◌<◌, ◌≤◌, true, false, ◌⊎◌, List, [], ◌∷◌, ◌++◌, map, length, Some, None, Ok, Err, Option, Result, sym, ap, ◌∙◌, subst, inl, inr, arith}
+use Rattle.std.proofs.Common.{◌≡◌, ℕ, suc, ◌+◌, ◌<◌, ◌≤◌, true, false, ◌⊎◌, List, [], ◌∷◌, ◌++◌, map, length, Some, None, Ok, Err, Option, Result, sym, refl, ap, ◌∙◌, subst, inl, inr, arith}
 use Rattle.std.proofs.lemmas.Bool.{cases_eq}
 use Rattle.std.proofs.lemmas.Bool.Decides.{nat_tests}
 use Rattle.std.proofs.lemmas.Option.{slice_get_past}
@@ -32,24 +32,24 @@ pub record Inv {A : Type 0} (S : Shape) (fecs : ℕ) (s : State A) (q : ℕ → 
   pub carried : (p : ℕ) → sum_to S.lines (λ e. loads p (q e)) + hit (suc p) h ≡ alive (at s.book p)
   pub known : (p : ℕ) (x : Record A) → at s.book p ≡ Some x → is_fate Waiting x.fate ≡ true → (suc p ≡ h) ⊎ ((f : ℕ) × (x.fec ≡ Some f))
 
+-- a frame that is light is accepted by a plant of the shape
+pub joins : {S : Shape} {v w : PlantValue} {e : ℕ} (x : Item) {sent : Option (ℕ × FrameValue)} → v.shape ≡ S → e < S.lines → is_full v e ≡ false → Light S x
+    → Sending v (Some (e, wire x)) sent w → Joins v e (wire x) w
+joins {v = v} {w = w} {e = e} x sh le fl lt g = go g.0 g.1
+  where
+    welcome : send_refusal v e (wire x) ≡ None
+    welcome =
+        let le' : e < v.shape.lines = rw sh le in
+        let top : over_kept v.shape.kept (wire x).stack ≡ false = rw sh lt.0 in
+        let deep : length (wire x).stack ≤ v.shape.depth = rw sh lt.1 in
+        grind (arith, nat_tests, fl, top)
+
+    go : (r : Result (Unit {0}) Refusal) → Sends v e (wire x) r w → Joins v e (wire x) w
+    go (Ok u) j = j.1
+    go (Err n) j = absurd (cc (welcome, j.0))
+
 module _ {A : Type 0} {S : Shape} {fecs : ℕ} {s : State A} {q : ℕ → List Item} where
   module _ {h : ℕ} (k : Inv S fecs s q h) where
-    -- a frame that is light is accepted
-    pub joins : {w : PlantValue} {e : ℕ} (x : Item) {sent : Option (ℕ × FrameValue)} → e < S.lines → is_full s.plant e ≡ false → Light S x
-        → Sending s.plant (Some (e, wire x)) sent w → Joins s.plant e (wire x) w
-    joins {w = w} {e = e} x le fl lt g = go g.0 g.1
-      where
-        welcome : send_refusal s.plant e (wire x) ≡ None
-        welcome =
-            let le' : e < s.plant.shape.lines = rw k.shape le in
-            let top : over_kept s.plant.shape.kept (wire x).stack ≡ false = rw k.shape lt.0 in
-            let deep : length (wire x).stack ≤ s.plant.shape.depth = rw k.shape lt.1 in
-            grind (arith, nat_tests, fl, top)
-
-        go : (r : Result (Unit {0}) Refusal) → Sends s.plant e (wire x) r w → Joins s.plant e (wire x) w
-        go (Ok u) j = j.1
-        go (Err n) j = absurd (cc (welcome, j.0))
-
     -- a frame that carries no packet is sent
     pub sent_keeps : (t : Tables) (e : ℕ) (x : Item) (w : PlantValue) → e < S.lines → Joins s.plant e (wire x) w → ((p : ℕ) → carries p x ≡ 0)
         → Wired S fecs t (put q e (q e ++ x ∷ [])) (fec_by s.book)
@@ -117,10 +117,10 @@ module _ {A : Type 0} {S : Shape} {fecs : ℕ} {s : State A} {q : ℕ → List I
     pub in_hand : alive (at s.book p) ≡ 1
     in_hand = omega (arith, k.carried p, hit_tells (suc p) (suc p), one_most (is_waiting (at s.book p)))
 
-    -- it ends
-    pub ended_keeps : (d : End) {x : Record A} → d.packet ≡ p → at s.book p ≡ Some x → is_fate Waiting d.fate ≡ false
+    -- its record gets the end
+    ended_at : (d : End) {x : Record A} → d.packet ≡ p → at s.book p ≡ Some x → is_fate Waiting d.fate ≡ false
         → Inv S fecs (record s { book = settle (Some d) s.book }) q 0
-    ended_keeps d {x = x} dp px z =
+    ended_at d {x = x} dp px z =
         let here : at (settle (Some d) s.book) p ≡ Some (close d x) = rw dp (revise_here (close d) p s.book x px) in
         let there = λ (i : ℕ) (n : i ≡ p → ⊥). revise_other (close d) d.packet s.book i (λ e. n (e ∙ dp)) in
         record {
@@ -148,6 +148,15 @@ module _ {A : Type 0} {S : Shape} {fecs : ℕ} {s : State A} {q : ℕ → List I
             | inr n ↦ elim (k.known i y (sym (there i n) ∙ e) wy) [ inl g ↦ absurd (n (omega arith)) | inr f ↦ inr f ]
           ];
         }
+
+    -- it ends
+    pub ended_keeps : (d : End) → d.packet ≡ p → is_fate Waiting d.fate ≡ false
+        → Inv S fecs (record s { book = settle (Some d) s.book }) q 0
+    ended_keeps d dp z = go (at s.book p) refl
+      where
+        go : (o : Option (Record A)) → at s.book p ≡ o → Inv S fecs (record s { book = settle (Some d) s.book }) q 0
+        go None e = absurd (omega (arith, in_hand, ap alive e))
+        go (Some x) e = ended_at d dp e z
 
     -- it is sent on
     pub forwarded_keeps : (e l t : ℕ) {x : Record A} {f : ℕ} {w : PlantValue} → at s.book p ≡ Some x → x.fec ≡ Some f → e < S.lines

@@ -1,17 +1,18 @@
 -- A tell, by what is due. Assumes nothing.
-use Rattle.std.proofs.Common.{◌≡◌, ℕ, ◌<◌, ◌≤◌, Bool, true, false, cond, ◌&&◌, leb, Some, None, Option, Result, sym, refl, ap, ◌∙◌, subst, ap₂}
-use Rattle.std.proofs.lemmas.Bool.{cond-true, cond-false, le-leb, lt-leb}
+use Rattle.std.proofs.Common.{◌≡◌, ℕ, ◌<◌, ◌≤◌, Bool, true, false, cond, ◌&&◌, ltb, leb, Some, None, Option, Result, sym, refl, ap, ◌∙◌, subst, ap₂}
+use Rattle.std.proofs.lemmas.Bool.{cond-true, cond-false, le-leb, lt-leb, lt-ltb, and_from}
 use Rattle.frame.specs.declared.refusal.Refusal.{Refusal}
 use Rattle.frame.specs.Numbers.{kind_number}
 use Rattle.frame.specs.Frames.{FrameValue}
 use Rattle.plant.specs.Plants.{PlantValue, Shape}
 use Rattle.plant.specs.Answers.{Sends}
 use Rattle.lookup.specs.declared.address.Address.{Address}
-use Rattle.model.specs.Tables.{Tables as tables, is_some, first_label}
+use Rattle.model.specs.Tables.{Tables as tables, is_label, is_some, first_label}
 use Rattle.model.specs.Messages.{Due, message, due_or, next_message}
 use Rattle.model.specs.Packets.{is_full}
 use Rattle.model.specs.Calls.{State, done, tell, tell_refusal, tell_next}
 use Rattle.model.specs.History.{Did, accepted}
+use Rattle.model.proofs.Firsts.{label_some}
 use Rattle.model.proofs.Citing.{did_act}
 use Rattle.tables.specs.declared.message.Message.{Message}
 use Rattle.tables.specs.declared.tables.Tables.{Tables}
@@ -23,14 +24,15 @@ use Rattle.network.specs.Networks.{plan_of, state_of}
 use Rattle.network.proofs.Citing.{runs}
 
 -- what holds of every message that may be due
-due_or_lem : (p : ℕ → Bool) (g : ℕ → Due) (rest : Option Due) (m : Due) (Q : Due → Type 0) → ((l : ℕ) → Q (g l)) → (rest ≡ Some m → Q m) → due_or (first_label p) g rest ≡ Some m → Q m
-due_or_lem p g rest m Q here later = go (first_label p)
+due_or_lem : (p : ℕ → Bool) (g : ℕ → Due) (rest : Option Due) (m : Due) (Q : Due → Type 0) → ((l : ℕ) → is_label l ≡ true → Q (g l)) → (rest ≡ Some m → Q m) → due_or (first_label p) g rest ≡ Some m → Q m
+due_or_lem p g rest m Q here later = go (first_label p) refl
   where
-    go : (o : Option ℕ) → due_or o g rest ≡ Some m → Q m
-    go None q = later q
-    go (Some l) q =
+    go : (o : Option ℕ) → first_label p ≡ o → due_or o g rest ≡ Some m → Q m
+    go None e q = later q
+    go (Some l) e q =
+        let in_range = label_some p l e in
         let same : g l ≡ m = cc q in
-        subst Q same (here l)
+        subst Q same (here l (and_from (leb 16 l) (ltb l 80) (le-leb 16 l in_range.1) (lt-ltb l 80 in_range.2)))
 
 -- sending it leaves what is said of its kind
 abbrev Proper : ℕ → tables → Due → Type 0
@@ -38,9 +40,9 @@ Proper e t m = m.after ≡ after_kind m.kind e m.label t
 
 pub next_after : (S : Shape) (e : ℕ) (t : tables) (m : Due) → next_message S e t ≡ Some m → Proper e t m
 next_after S e t m q =
-    due_or_lem _ _ _ m (Proper e t) (λ l. refl)
-    (λ q₂. due_or_lem _ _ _ m (Proper e t) (λ l. refl)
-    (λ q₃. due_or_lem _ _ _ m (Proper e t) (λ l. refl) (λ z. cc) q₃) q₂) q
+    due_or_lem _ _ _ m (Proper e t) (λ l _. refl)
+    (λ q₂. due_or_lem _ _ _ m (Proper e t) (λ l _. refl)
+    (λ q₃. due_or_lem _ _ _ m (Proper e t) (λ l _. refl) (λ z. cc) q₃) q₂) q
 
 -- the program's message is the one that is due
 pub due_message : (o : Option Due) (x : Message) → Some x ≡ message_of o → (m : Due) × (o ≡ Some m) × (x ≡ record { kind = m.kind; fec = m.fec; label = m.label })
