@@ -28,6 +28,14 @@ pub record Through (s : Shape) (p : Path) : Type 0 where
   pub apart : Apart p
   pub open_ended : Open s p
 
+-- the line of a hop begins where that of the hop before ends
+abbrev pub JoinsAt : Shape → Path → ℕ → Type 0
+JoinsAt s p i = (s.line (hop p i)).from ≡ (s.line (hop p (i - 1))).to
+
+-- a line exists, and its cap and its partner's exceed a window
+abbrev pub WideAt : Shape → ℕ → ℕ → Type 0
+WideAt s w l = (l < s.lines) × (w < (s.line l).cap) × (w < (s.line (partner l)).cap)
+
 -- the plant below can carry the tunnel
 pub record Able (v : PlantValue) (p : Path) : Type 0 where
   pub few : v.shape.lines ≤ 46
