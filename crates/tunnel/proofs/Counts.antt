@@ -1,6 +1,10 @@
--- How many of the first elements of a list pass. Assumes nothing.
-use Rattle.std.proofs.Common.{◌≡◌, ℕ, zero, suc, ◌+◌, ◌<◌, ◌≤◌, Bool, true, false, cond, List, [], ◌∷◌, length, get_or, take, ap, ◌∙◌, arith, length-append, length-take}
+-- How many of the first elements of a list pass, and sums over the first numbers. Assumes nothing.
+use Rattle.std.proofs.Common.{◌≡◌, ℕ, zero, suc, ◌+◌, ◌*◌, ◌<◌, ◌≤◌, Bool, true, false, cond, List, [], ◌∷◌, map, length, get_or, take, sym, refl, ap, ap₂, ◌∙◌, add-one, arith, length-append, length-take}
+use lib.ListN.{length-map}
+use Rattle.std.specs.List.{filter, range_with_len, sum}
 use Rattle.std.proofs.lemmas.List.{take_more}
+use Rattle.std.proofs.lemmas.List.FromFn.{sum_by-map-range_with_len_more}
+use Rattle.plant.specs.Plants.{sum_to}
 use Rattle.tunnel.specs.Tunnels.{keep}
 use Rattle.tunnel.specs.Ways.{keep_push, keep_skip}
 
@@ -33,3 +37,37 @@ module _ {X : Type 0} (t : X → Bool) where
       go : (b : Bool) → get_or (keep t xs) (length (keep t (take i xs))) d ≡ get_or xs i d → get_or (cond b (x ∷ keep t xs) (keep t xs)) (length (cond b (x ∷ keep t (take i xs)) (keep t (take i xs)))) d ≡ get_or xs i d
       go true ih = ih
       go false ih = ih
+
+  -- the places at which an element passes, read
+  pub places_kept : (f : ℕ → X) (a : ℕ) (xs : List X) (d : X) → ((i : ℕ) → i < length xs → f (a + i) ≡ get_or xs i d) → map f (filter (λ i. t (f i)) (range_with_len a (length xs))) ≡ keep t xs
+  places_kept f a [] d h = refl
+  places_kept f a (x ∷ xs) d h = go (t (f a)) (places_kept f (a + 1) xs d (λ i lt. let z : a + 1 + i ≡ a + suc i = omega arith in ap f z ∙ h (suc i) (omega arith))) ∙ ap (λ y. cond (t y) (x ∷ keep t xs) (keep t xs)) first
+    where
+      first : f a ≡ x
+      first = let z : a ≡ a + 0 = omega arith in ap f z ∙ h 0 (omega arith)
+
+      go : (b : Bool) → map f (filter (λ i. t (f i)) (range_with_len (a + 1) (length xs))) ≡ keep t xs
+          → map f (cond b (a ∷ filter (λ i. t (f i)) (range_with_len (a + 1) (length xs))) (filter (λ i. t (f i)) (range_with_len (a + 1) (length xs)))) ≡ cond b (x ∷ keep t xs) (keep t xs)
+      go true later = ap₂ ◌∷◌ first later
+      go false later = later
+
+  pub places_count : (xs : List X) (d : X) → length (filter (λ i. t (get_or xs i d)) (range_with_len 0 (length xs))) ≡ length (keep t xs)
+  places_count xs d =
+      sym (length-map (filter (λ i. t (get_or xs i d)) (range_with_len 0 (length xs))) (λ i. get_or xs i d))
+      ∙ ap length (places_kept (λ i. get_or xs i d) 0 xs d (λ i lt. let z : 0 + i ≡ i = omega arith in ap (λ n. get_or xs n d) z))
+
+-- the sum of the values at the first numbers, as a list
+pub sum_first : (h : ℕ → ℕ) (n : ℕ) → sum (map h (range_with_len 0 n)) ≡ sum_to n h
+sum_first h zero = refl
+sum_first h (suc n) =
+    let more = sum_by-map-range_with_len_more (λ (x : ℕ). x) h 0 n n (omega arith) in
+    let one : sum (map h (range_with_len 0 (suc n))) ≡ sum (map h (range_with_len 0 (n + 1))) = ap (λ m. sum (map h (range_with_len 0 m))) (sym (add-one n)) in
+    omega (arith, sum_first h n, more, one)
+
+pub sum_most : (h : ℕ → ℕ) (m n : ℕ) → ((i : ℕ) → i < n → h i ≤ m) → sum_to n h ≤ n * m
+sum_most h m zero b = omega arith
+sum_most h m (suc n) b =
+    let a = sum_most h m n (λ i lt. b i (omega arith)) in
+    let c = b n (omega arith) in
+    let d : suc n * m ≡ n * m + m = omega arith in
+    omega (arith, a, c, d)

@@ -10,8 +10,8 @@ use crate::path::Hop;
 use frame::Frame;
 use plant::Plant;
 
-// The loops over hops and places go by index: a plant lends no list of either, and a closure that unwraps its answers was
-// tried and not proved, being asked for every index.
+// The loops of frame and nth go by index: a plant lends no list of hops or places, and of a closure that unwraps its answers it
+// was tried and not proved that it may be called.
 impl<P: Plant> Open<'_, P> {
     // The routers where a line begins and ends.
     pub(crate) fn ends(&self, line: usize) -> (usize, usize)
@@ -74,11 +74,9 @@ impl<P: Plant> Open<'_, P> {
             };
         }
         let back = line > self.path.below;
-        let mut sum = 0;
-        for index in 0..self.path.len {
-            sum += self.carried(Hop { back, index });
-        }
-        sum
+        (0..self.path.len)
+            .map(|index| self.carried(Hop { back, index }))
+            .sum()
     }
 
     // The frame at a place of a line's list.
@@ -118,13 +116,20 @@ impl<P: Plant> Open<'_, P> {
     {
         let line = self.at(hop);
         let label = self.path.label(hop);
-        let mut n = 0;
-        for i in 0..self.below.waits(line).unwrap() {
-            if has_top(&self.below.waiting(line, i).unwrap(), label) {
-                n += 1;
-            }
-        }
-        n
+        let all = self.below.waits(line).unwrap();
+        (0..all)
+            .filter(|place| self.labelled(line, *place, label))
+            .count()
+    }
+
+    // Whether a frame with a label on top waits at a place of a line.
+    fn labelled(&self, line: usize, place: usize, label: u32) -> bool
+        requires { line < (P.value self.now.below.now).shape.lines }
+        ensures { result ≡ top_is label (slice_index_or ((P.value self.now.below.now).waiting line) place no_frame) }
+    {
+        self.below
+            .waiting(line, place)
+            .is_some_and(|frame| has_top(&frame, label))
     }
 
     // The frame at a place among those on a hop's line that are the tunnel's own, or among the others.
