@@ -2,7 +2,7 @@
 use Rattle.std.proofs.Common.{◌≡◌, ℕ, zero, suc, ◌+◌, ◌*◌, ◌<◌, ◌≤◌, Bool, true, false, cond, List, [], ◌∷◌, map, length, get_or, take, sym, refl, ap, ap₂, ◌∙◌, add-one, arith, length-append, length-take}
 use lib.ListN.{length-map}
 use Rattle.std.specs.List.{filter, range_with_len, sum}
-use Rattle.std.proofs.lemmas.List.{take_more}
+use Rattle.std.proofs.lemmas.List.{take_more, get_or-map}
 use Rattle.std.proofs.lemmas.List.FromFn.{sum_by-map-range_with_len_more}
 use Rattle.plant.specs.Plants.{sum_to}
 use Rattle.tunnel.specs.Tunnels.{keep}
@@ -56,6 +56,33 @@ module _ {X : Type 0} (t : X → Bool) where
       sym (length-map (filter (λ i. t (get_or xs i d)) (range_with_len 0 (length xs))) (λ i. get_or xs i d))
       ∙ ap length (places_kept (λ i. get_or xs i d) 0 xs d (λ i lt. let z : 0 + i ≡ i = omega arith in ap (λ n. get_or xs n d) z))
 
+-- what passes among the numbers from a on is below their end
+pub filter_within : (t : ℕ → Bool) (a n k : ℕ) → k < length (filter t (range_with_len a n)) → get_or (filter t (range_with_len a n)) k 0 < a + n
+filter_within t a zero k lt = absurd (omega arith)
+filter_within t a (suc n) k lt = go (t a) k (λ j b. filter_within t (a + 1) n j b) lt
+  where
+    go : (b : Bool) (k : ℕ) → ((j : ℕ) → j < length (filter t (range_with_len (a + 1) n)) → get_or (filter t (range_with_len (a + 1) n)) j 0 < a + 1 + n)
+        → k < length (cond b (a ∷ filter t (range_with_len (a + 1) n)) (filter t (range_with_len (a + 1) n)))
+        → get_or (cond b (a ∷ filter t (range_with_len (a + 1) n)) (filter t (range_with_len (a + 1) n))) k 0 < a + suc n
+    go true zero ih b = omega arith
+    go true (suc j) ih b = let c = ih j (omega arith) in omega arith
+    go false k ih b = let c = ih k b in omega arith
+
+-- the place of the n-th element that passes, of more than n
+module _ {X : Type 0} (t : X → Bool) (xs : List X) (d : X) (n : ℕ) (lt : n < length (keep t xs)) where
+  abbrev places : List ℕ
+  places = filter (λ i. t (get_or xs i d)) (range_with_len 0 (length xs))
+
+  pub place_told : n < length places
+  place_told = let a = places_count t xs d in omega (arith, a, lt)
+
+  pub place_within : get_or places n 0 < length xs
+  place_within = let a = filter_within (λ i. t (get_or xs i d)) 0 (length xs) n place_told in omega (arith, a)
+
+  pub place_read : get_or xs (get_or places n 0) d ≡ get_or (keep t xs) n d
+  place_read = sym (get_or-map (λ i. get_or xs i d) places n 0 d place_told)
+      ∙ ap (λ zs. get_or zs n d) (places_kept t (λ i. get_or xs i d) 0 xs d (λ i b. let z : 0 + i ≡ i = omega arith in ap (λ m. get_or xs m d) z))
+
 -- the sum of the values at the first numbers, as a list
 pub sum_first : (h : ℕ → ℕ) (n : ℕ) → sum (map h (range_with_len 0 n)) ≡ sum_to n h
 sum_first h zero = refl
@@ -71,3 +98,7 @@ sum_most h m (suc n) b =
     let c = b n (omega arith) in
     let d : suc n * m ≡ n * m + m = omega arith in
     omega (arith, a, c, d)
+
+pub filter_like : {X : Type 0} (t u : X → Bool) → ((x : X) → t x ≡ u x) → (xs : List X) → filter t xs ≡ filter u xs
+filter_like t u h [] = refl
+filter_like t u h (x ∷ xs) = ap₂ (λ b ys. cond b (x ∷ ys) ys) (h x) (filter_like t u h xs)
