@@ -1,10 +1,10 @@
 -- The two own lines of an open tunnel, and its plain ones, as a question reads them. Assumes nothing.
-use Rattle.std.proofs.Common.{◌≡◌, ℕ, suc, ◌+◌, ◌-◌, ◌%◌, ◌<◌, ◌≤◌, Bool, true, false, cond, not, ltb, List, [], ◌∷◌, ◌++◌, length, get_or, Some, None, Option, Ok, Result, sym, refl, ap, ◌∙◌, subst, ap₂, ⊎_elim, arith, length-append}
-use Rattle.std.proofs.lemmas.List.{get_or_append_left, get_or-append_right}
-use Rattle.std.proofs.lemmas.Bool.{cases_eq, cond-true, cond-false, lt-ltb, le-ltb}
+use Rattle.std.proofs.Common.{◌≡◌, ℕ, suc, ◌+◌, ◌-◌, ◌%◌, ◌<◌, ◌≤◌, Bool, true, false, cond, not, ltb, ◌⊎◌, inl, inr, List, [], ◌∷◌, ◌++◌, length, get_or, Some, None, Option, Ok, Result, sym, refl, ap, ◌∙◌, subst, ap₂, ⊎_elim, arith, length-append}
+use Rattle.std.proofs.lemmas.List.{get_or_append_left, get_or-append_right, get_or_past}
+use Rattle.std.proofs.lemmas.Bool.{cases_eq, cases_order, cond-true, cond-false, lt-ltb, le-ltb}
 use lib.ListN.{length-map}
 use mathlib.Core.Bool.{beq}
-use Rattle.std.specs.Option.{IsSome}
+use Rattle.std.specs.Option.{IsSome, MatchOption, option_map}
 use Rattle.frame.specs.declared.frame.Frame.{Frame}
 use Rattle.frame.specs.declared.refusal.Refusal.{Refusal}
 use Rattle.frame.specs.Frames.{FrameValue, frame_value}
@@ -13,11 +13,11 @@ use Rattle.plant.specs.Questions.{no_frame, of_line, Waiting}
 use Rattle.plant.proofs.Sums.{sum_front}
 use Rattle.tunnel.specs.declared.path.Path.{Path}
 use Rattle.tunnel.specs.declared.path.Hop.{Hop}
-use Rattle.tunnel.specs.Tunnels.{Way, way_of, own, top_is, keep, forth, back, popped, hop_frames, along, gather, spans, tunnel_value, meaning}
-use Rattle.tunnel.specs.Held.{Links, PathOk, TunnelOk}
+use Rattle.tunnel.specs.Tunnels.{Way, way_of, own, top_is, keep, forth, back, popped, hop_frames, along, gather, hop_span, spans, tunnel_value, meaning}
+use Rattle.tunnel.specs.Held.{Links, Exist, PathOk, TunnelOk}
 use Rattle.tunnel.specs.Onward.{line_of}
-use Rattle.tunnel.specs.Inner.{OnHop, picks}
-use Rattle.tunnel.specs.Paths.{marked}
+use Rattle.tunnel.specs.Inner.{OnHop, picks, told_at}
+use Rattle.tunnel.specs.Paths.{marked, way_within}
 use Rattle.tunnel.proofs.Steps.{low}
 use Rattle.tunnel.proofs.Answers.{Side, side_forth, side_back}
 use Rattle.tunnel.proofs.Rooms.{keep_parts, keep_like, gather_length, way_load}
@@ -178,3 +178,44 @@ module _ (r : Result Path Refusal) (p : Path) (v u : PlantValue) (line : ℕ) (s
   line_some lt part a is = subst (λ z. Some a ≡ of_line (meaning z u).shape line (part (meaning z u))) (sym live)
       (subst (λ w. Some a ≡ of_line (tunnel_value p w).shape line (part (tunnel_value p w))) same
       (ap Some is ∙ sym (cond-true (ltb line (v.shape.lines + 2)) (Some (part (tunnel_value p v))) None (lt-ltb line (v.shape.lines + 2) lt))))
+
+pub told_here : (v : PlantValue) (l i : ℕ) → l < v.shape.lines → told_at v l i ≡ get_or (v.waiting l) i no_frame
+told_here v l i lt = cond-true (ltb l v.shape.lines) (get_or (v.waiting l) i no_frame) no_frame (lt-ltb l v.shape.lines lt)
+
+lt_or_le : (a b : ℕ) → (a < b) ⊎ (b ≤ a)
+lt_or_le a b = ⊎_elim (λ e. inr (omega arith)) (⊎_elim (λ lt. inl lt) (λ lt. inr (omega arith))) (cases_order a b)
+
+-- a test of the frame at a place, that no missing frame passes
+pub told_test : (v : PlantValue) (l i : ℕ) (t : FrameValue → Bool) → t no_frame ≡ false → l < v.shape.lines → (o : Option Frame) → Waiting v l i o
+    → (r : Bool) (P : Frame → Type 0) → ((f : Frame) → P f → r ≡ t (frame_value f)) → MatchOption o (r ≡ false) P → r ≡ t (get_or (v.waiting l) i no_frame)
+told_test v l i t bare line None none r P is e = e ∙ sym (ap t (get_or_past (v.waiting l) i no_frame (none line)) ∙ bare)
+told_test v l i t bare line (Some f) some r P is e = is f e ∙ ap t some.2
+
+-- the same of a line that may not exist
+pub told_pick : (v : PlantValue) (l i k : ℕ) (own : Bool) (o : Option Frame) → Waiting v l i o
+    → (r : Bool) (P : Frame → Type 0) → ((f : Frame) → P f → r ≡ top_is k (frame_value f)) → MatchOption o (r ≡ false) P → beq r own ≡ picks own k (told_at v l i)
+told_pick v l i k own o told r P is e = ap (λ b. beq b own) (⊎_elim
+    (λ lt. told_test v l i (top_is k) refl lt o told r P is e ∙ ap (top_is k) (sym (told_here v l i lt)))
+    (λ ge. off o told e ge ∙ ap (top_is k) (sym (cond-false (ltb l v.shape.lines) (get_or (v.waiting l) i no_frame) no_frame (le-ltb l v.shape.lines ge))))
+    (lt_or_le l v.shape.lines)) ∙ sym (picks_is own k (told_at v l i))
+  where
+    off : (o : Option Frame) → Waiting v l i o → MatchOption o (r ≡ false) P → v.shape.lines ≤ l → r ≡ false
+    off None told e ge = e
+    off (Some f) told e ge = let lt = told.0 in absurd (omega arith)
+
+pub way_len : (b : Bool) (p : Path) → (way_of b p).len ≡ p.len
+way_len true p = refl
+way_len false p = refl
+
+-- a hop's line has the span of a line
+pub hop_span_most : (p : Path) (v : PlantValue) → Lawful v → Exist v.shape p → (b : Bool) (i : ℕ) → i < p.len → hop_span v.shape (way_of b p) i ≤ 2097152
+hop_span_most p v law exist b i lt = (law.shape.line ((way_of b p).at i) (way_within p v.shape.lines law.shape.even exist b i lt)).span_most
+
+-- an option as it is
+pub as_is : (o : Option ℕ) → option_map (λ i. i) o ≡ o
+as_is None = refl
+as_is (Some i) = refl
+
+-- a place that is found
+pub place_found : (o : Option ℕ) {x : ℕ} → o ≡ Some x → IsSome o
+place_found o e = subst IsSome (sym e) refl

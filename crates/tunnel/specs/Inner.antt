@@ -1,6 +1,8 @@
 -- What only the contracts of inner functions cite; nothing that is public rests on it. Assumes nothing.
-use Rattle.std.specs.Prelude.{◌≡◌, ℕ, ◌+◌, ◌-◌, ◌<◌, ◌≤◌, Bool, true, false, not, ◌≢◌, List, length, slice_index_or, Some, None, Option, Result}
+use Rattle.std.specs.Prelude.{◌≡◌, ℕ, ◌+◌, ◌-◌, ◌<◌, ◌≤◌, Bool, true, false, not, cond, nat_lt, ◌≢◌, List, length, slice_index_or, Some, None, Option, Result}
 use Rattle.std.specs.Option.{option_map}
+use Rattle.std.specs.List.{filter, range_with_len}
+use Rattle.plant.specs.Questions.{no_frame}
 use Rattle.frame.specs.declared.frame.Frame.{Frame}
 use Rattle.frame.specs.declared.refusal.Refusal.{Refusal}
 use Rattle.frame.specs.Frames.{FrameValue, frame_value}
@@ -27,6 +29,14 @@ pub record Through (s : Shape) (p : Path) : Type 0 where
   pub chained : Chained s p
   pub apart : Apart p
   pub open_ended : Open s p
+
+-- the line of a hop begins where that of the hop before ends
+abbrev pub JoinsAt : Shape → Path → ℕ → Type 0
+JoinsAt s p i = (s.line (hop p i)).from ≡ (s.line (hop p (i - 1))).to
+
+-- a line exists, and its cap and its partner's exceed a window
+abbrev pub WideAt : Shape → ℕ → ℕ → Type 0
+WideAt s w l = (l < s.lines) × (w < (s.line l).cap) × (w < (s.line (partner l)).cap)
 
 -- the plant below can carry the tunnel
 pub record Able (v : PlantValue) (p : Path) : Type 0 where
@@ -72,6 +82,14 @@ link_of p false i = i
 abbrev pub picks : Bool → ℕ → FrameValue → Bool
 picks true k f = top_is k f
 picks false k f = not (top_is k f)
+
+-- the frame at a place of a line, or one without entries where none waits
+abbrev pub told_at : PlantValue → ℕ → ℕ → FrameValue
+told_at v l i = cond (nat_lt l v.shape.lines) (slice_index_or (v.waiting l) i no_frame) no_frame
+
+-- the places of the frames with a label on top, or of the others
+abbrev pub places : Bool → ℕ → List FrameValue → List ℕ
+places own k xs = filter (λ i. picks own k (slice_index_or xs i no_frame)) (range_with_len 0 (length xs))
 
 -- the future below after a send there
 abbrev pub after_entry : ℕ × FrameValue → Result (Unit {0}) Refusal → Future → Future

@@ -1,7 +1,7 @@
 // A path whose lines exist in the plant below, and the spans along it.
 ghost use Rattle.std.specs.Prelude.{◌≡◌, ◌<◌, ◌≤◌};
 ghost use Rattle.std.proofs.Props.{props};
-ghost use Rattle.tunnel.specs.Tunnels.{way_of, spans};
+ghost use Rattle.tunnel.specs.Tunnels.{way_of, hop_span, spans};
 ghost use Rattle.tunnel.specs.Held.{Exist};
 
 use crate::path::{Hop, Path};
@@ -27,15 +27,20 @@ impl<P: Plant> Laid<'_, P> {
         self.path.at(hop)
     }
 
+    // The span of a hop's line.
+    fn span(&self, hop: Hop) -> usize
+        requires { hop.index < self.now.path.now.len }
+        ensures { result ≡ hop_span (P.value self.now.below.now).shape (way_of hop.back self.now.path.now) hop.index }
+    {
+        self.below.span(self.at(hop)).unwrap()
+    }
+
     // The spans of a direction, added up.
     pub(crate) fn travelled(&self, back: bool) -> usize
         ensures { result ≡ spans (P.value self.now.below.now).shape (way_of back self.now.path.now) }
     {
-        // by index: as a sum over a range it was tried, and that the sum fits was not proved
-        let mut sum = 0;
-        for index in 0..self.path.len {
-            sum += self.below.span(self.at(Hop { back, index })).unwrap();
-        }
-        sum
+        (0..self.path.len)
+            .map(|index| self.span(Hop { back, index }))
+            .sum()
     }
 }

@@ -1,17 +1,15 @@
 // Questions about the lines of an open tunnel.
-ghost use Rattle.std.specs.Prelude.{◌≡◌, ◌+◌, ◌<◌, length, slice_index_or};
+ghost use Rattle.std.specs.Prelude.{◌≡◌, ◌+◌, ◌<◌, length, slice_get, slice_index_or};
 ghost use Rattle.frame.specs.Frames.{frame_value};
 ghost use Rattle.plant.specs.Questions.{no_frame};
 ghost use Rattle.tunnel.specs.Tunnels.{keep, top_is, way_of, hop_frames, tunnel_value};
-ghost use Rattle.tunnel.specs.Inner.{picks};
+ghost use Rattle.tunnel.specs.Inner.{picks, places, told_at};
 
 use crate::open::Open;
 use crate::path::Hop;
 use frame::Frame;
 use plant::Plant;
 
-// The loops over hops and places go by index: a plant lends no list of either, and a closure that unwraps its answers was
-// tried and not proved, being asked for every index.
 impl<P: Plant> Open<'_, P> {
     // The routers where a line begins and ends.
     pub(crate) fn ends(&self, line: usize) -> (usize, usize)
@@ -74,11 +72,9 @@ impl<P: Plant> Open<'_, P> {
             };
         }
         let back = line > self.path.below;
-        let mut sum = 0;
-        for index in 0..self.path.len {
-            sum += self.carried(Hop { back, index });
-        }
-        sum
+        (0..self.path.len)
+            .map(|index| self.carried(Hop { back, index }))
+            .sum()
     }
 
     // The frame at a place of a line's list.
@@ -95,6 +91,7 @@ impl<P: Plant> Open<'_, P> {
         }
         let back = line > self.path.below;
         let mut left = place;
+        // by index: from hop to hop less is left to skip, and a chain's closure that changes what it captures is no plainer
         for k in 0..self.path.len {
             let hop = Hop {
                 back,
@@ -118,13 +115,21 @@ impl<P: Plant> Open<'_, P> {
     {
         let line = self.at(hop);
         let label = self.path.label(hop);
-        let mut n = 0;
-        for i in 0..self.below.waits(line).unwrap() {
-            if has_top(&self.below.waiting(line, i).unwrap(), label) {
-                n += 1;
-            }
-        }
-        n
+        let all = self.below.waits(line).unwrap();
+        (0..all)
+            .filter(|place| self.picked(line, *place, label, true))
+            .count()
+    }
+
+    // Whether the frame at a place of a line has a label on top, or, if the others are asked for, whether it has not.
+    fn picked(&self, line: usize, place: usize, label: u32, own: bool) -> bool
+        ensures { result ≡ picks own label (told_at (P.value self.now.below.now) line place) }
+    {
+        let labelled = self
+            .below
+            .waiting(line, place)
+            .is_some_and(|frame| has_top(&frame, label));
+        labelled == own
     }
 
     // The frame at a place among those on a hop's line that are the tunnel's own, or among the others.
@@ -135,17 +140,19 @@ impl<P: Plant> Open<'_, P> {
     {
         let line = self.at(hop);
         let label = self.path.label(hop);
-        let mut seen = 0;
-        for i in 0..self.below.waits(line).unwrap() {
-            let frame = self.below.waiting(line, i).unwrap();
-            if has_top(&frame, label) == own {
-                if seen == at {
-                    return frame;
-                }
-                seen += 1;
-            }
-        }
-        unreachable()
+        let place = self.place(line, label, own, at).unwrap();
+        self.below.waiting(line, place).unwrap()
+    }
+
+    // The place on a line of the frame at a place among those with a label on top, or among the others.
+    fn place(&self, line: usize, label: u32, own: bool, at: usize) -> Option<usize>
+        requires { line < (P.value self.now.below.now).shape.lines }
+        ensures { result ≡ slice_get (places own label ((P.value self.now.below.now).waiting line)) at }
+    {
+        let all = self.below.waits(line).unwrap();
+        (0..all)
+            .filter(|place| self.picked(line, *place, label, own))
+            .nth(at)
     }
 }
 

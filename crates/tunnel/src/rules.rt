@@ -4,7 +4,7 @@ ghost use Rattle.frame.specs.Numbers.{refused_by};
 ghost use Rattle.plant.specs.Plants.{partner};
 ghost use Rattle.tunnel.specs.Held.{Exist, Chained, Apart, Open as OpenEnded, Wide};
 ghost use Rattle.tunnel.specs.Rules.{rule_broken};
-ghost use Rattle.tunnel.specs.Inner.{InRange, Through, Able};
+ghost use Rattle.tunnel.specs.Inner.{InRange, Through, Able, JoinsAt, WideAt};
 
 use crate::laid::Laid;
 use crate::path::Path;
@@ -77,19 +77,22 @@ impl<P: Plant> Laid<'_, P> {
         self.chained() && apart(self.path) && self.open_ended()
     }
 
-    // Whether each line begins where the one before ends. By index, as is wide: in a closure over the hops the answers below
-    // could not be unwrapped, which was tried.
+    // Whether each line begins where the one before ends.
     fn chained(&self) -> bool
         ensures { MatchBool result (Chained (P.value self.now.below.now).shape self.now.path.now) (Chained (P.value self.now.below.now).shape self.now.path.now → ⊥) }
     {
-        for i in 1..self.path.len {
-            if self.below.ends(self.path.lines[i]).unwrap().0
-                != self.below.ends(self.path.lines[i - 1]).unwrap().1
-            {
-                return false;
-            }
-        }
-        true
+        (1..self.path.len).all(|i| self.joins(i))
+    }
+
+    // Whether the line of a hop forth begins where that of the hop before ends.
+    fn joins(&self, i: usize) -> bool
+        requires first { 1 ≤ i }
+        requires last { i < self.now.path.now.len }
+        ensures { MatchBool result (JoinsAt (P.value self.now.below.now).shape self.now.path.now i) (JoinsAt (P.value self.now.below.now).shape self.now.path.now i → ⊥) }
+    {
+        let (_, to) = self.below.ends(self.path.lines[i - 1]).unwrap();
+        let (from, _) = self.below.ends(self.path.lines[i]).unwrap();
+        from == to
     }
 
     // Whether the path ends elsewhere than it begins.
@@ -118,14 +121,17 @@ impl<P: Plant> Laid<'_, P> {
     fn wide(&self) -> bool
         ensures { MatchBool result (Wide (P.value self.now.below.now).shape self.now.path.now) (Wide (P.value self.now.below.now).shape self.now.path.now → ⊥) }
     {
-        for i in 0..self.path.len {
-            let line = self.path.lines[i];
-            if self.below.cap(line).unwrap() <= self.path.window
-                || self.below.cap(partner_of(line)).unwrap() <= self.path.window
-            {
-                return false;
-            }
-        }
-        true
+        self.path.hops().iter().all(|line| self.wide_at(*line))
+    }
+
+    // Whether a line exists, and its cap and its partner's exceed the window.
+    fn wide_at(&self, line: usize) -> bool
+        ensures { MatchBool result (WideAt (P.value self.now.below.now).shape self.now.path.now.window line) (WideAt (P.value self.now.below.now).shape self.now.path.now.window line → ⊥) }
+    {
+        let exceeds = |line| self
+            .below
+            .cap(line)
+            .is_some_and(|cap| cap > self.path.window);
+        exceeds(line) && exceeds(partner_of(line))
     }
 }

@@ -1,51 +1,20 @@
-use Rattle.std.proofs.Common.{◌≡◌, ◌<◌, ◌≤◌, length, get_or, sym, ap, ap₂, ◌∙◌, arith}
+use Rattle.std.proofs.Common.{true, length, sym, ap, ap₂, ◌∙◌, rules, arith}
+use borrow.Author.Tests.{tests}
 use lib.ListN.{length-map}
-use Rattle.std.proofs.lemmas.List.{take_all}
+use Rattle.std.proofs.lemmas.Iterator.{YieldsList-from_range}
+use Rattle.std.proofs.lemmas.Iterator.Consumers.{count_from_yields_List, YieldsList-from_filter}
+use Rattle.std.specs.List.{range_with_len}
 use Rattle.plant.specs.Questions.{no_frame}
+use Rattle.tunnel.specs.Inner.{picks, told_at}
 use Rattle.tunnel.specs.Tunnels.{keep, top_is, popped, way_of}
-use Rattle.tunnel.proofs.Counts.{keep_front, keep_yes, keep_no}
-use Rattle.tunnel.proofs.Reading.{is_told, told_is, waits_there, waits_is}
+use Rattle.tunnel.proofs.Counts.{places_count, filter_like}
+use Rattle.tunnel.proofs.Reading.{is_told, told_is, told_here}
 use Rattle.tunnel.proofs.open.Open.carried.Goals as goal
-use Rattle.tunnel.proofs.open.Open.carried.Goals.{then-has_top, else-has_top}
 
-pub unwrap-i-end-requires : goal.unwrap-i-end-requires
-unwrap-i-end-requires g c =
+pub unwrap-all-requires : goal.unwrap-all-requires
+unwrap-all-requires g c =
     let v = g.P.Plant.value c.args.self.now.below.now in
     is_told v.shape c.at-line.result (length (v.waiting c.at-line.result)) c.waits.result c.at-line.ensures.exists c.waits.ensures
-
-pub unwrap-requires : goal.unwrap-requires
-unwrap-requires g c =
-    let v = g.P.Plant.value c.args.self.now.below.now in
-    let l = c.at-line.result in
-    let end = told_is v.shape l (length (v.waiting l)) c.waits.result c.at-line.ensures.exists c.waits.ensures c.unwrap-i-end.result c.unwrap-i-end.ensures in
-    waits_there v l c.loop-i.i c.waiting.result c.waiting.ensures c.at-line.ensures.exists (omega (arith, end, c.loop-i-test.true))
-
--- with one place more, where the frame there has the label on top or not
-now : (g : _) (c : goal.Joined-has_top g) → top_is c.label-label.result (get_or ((g.P.Plant.value c.args.self.now.below.now).waiting c.at-line.result) c.loop-i.i no_frame) ≡ c.has_top.result
-now g c =
-    let v = g.P.Plant.value c.args.self.now.below.now in
-    ap (top_is c.label-label.result) (sym (waits_is v c.at-line.result c.loop-i.i c.waiting.result c.waiting.ensures c.unwrap.result c.unwrap.ensures)) ∙ sym c.has_top.ensures
-
-pub loop-i-preserved : goal.loop-i-preserved
-loop-i-preserved g c =
-    let v = g.P.Plant.value c.args.self.now.below.now in
-    let l = c.at-line.result in
-    let xs = v.waiting l in
-    let t = top_is c.label-label.result in
-    let i = c.loop-i.i in
-    let end = told_is v.shape l (length xs) c.waits.result c.at-line.ensures.exists c.waits.ensures c.unwrap-i-end.result c.unwrap-i-end.ensures in
-    let lt : i < length xs = omega (arith, end, c.loop-i-test.true) in
-    let is = now g c in
-    elim c.if-has_top.branch [
-      | then-has_top w ↦ let a = keep_yes t xs i no_frame lt (is ∙ w.if-has_top.true) in omega (arith, a, w.n-is, c.loop-i.invariant)
-      | else-has_top w ↦ let a = keep_no t xs i no_frame lt (is ∙ w.if-has_top.false) in omega (arith, a, w.n-is, c.loop-i.invariant)
-    ]
-
-pub overflow_add-n : goal.overflow_add-n
-overflow_add-n g c =
-    let xs = (g.P.Plant.value c.args.self.now.below.now).waiting c.at-line.result in
-    let few = keep_front (top_is c.label-label.result) xs c.loop-i.i in
-    omega (arith, few, c.loop-i.invariant)
 
 pub returns : goal.returns
 returns g c =
@@ -54,8 +23,11 @@ returns g c =
     let v = g.P.Plant.value t.below.now in
     let x = way_of c.args.hop.back p in
     let l = c.at-line.result in
-    let end = told_is v.shape l (length (v.waiting l)) c.waits.result c.at-line.ensures.exists c.waits.ensures c.unwrap-i-end.result c.unwrap-i-end.ensures in
-    let le : length (v.waiting l) ≤ c.loop-i.i = omega (arith, end, c.loop-i-test.false) in
-    c.loop-i.invariant ∙ ap (λ ys. length (keep (top_is c.label-label.result) ys)) (take_all c.loop-i.i (v.waiting l) le)
+    let xs = v.waiting l in
+    let end = told_is v.shape l (length xs) c.waits.result c.at-line.ensures.exists c.waits.ensures c.unwrap-all.result c.unwrap-all.ensures in
+    count_from_yields_List c.filter.result c.count.result c.count.ensures.ran
+    (YieldsList-from_filter _ (λ i. picks true c.label-label.result (told_at v l i)) (YieldsList-from_range 0 c.unwrap-all.result (length xs) (cc) (omega (arith, end))) c.filter.ensures.closure (λ y r q k. search (rules, tests)))
+    ∙ ap length (filter_like _ _ (λ i. ap (top_is c.label-label.result) (told_here v l i c.at-line.ensures.exists)) (range_with_len 0 (length xs)))
+    ∙ places_count (top_is c.label-label.result) xs no_frame
     ∙ ap₂ (λ n k. length (keep (top_is k) (v.waiting n))) c.at-line.ensures.is c.label-label.ensures
     ∙ sym (length-map (keep (top_is (x.label c.args.hop.index)) (v.waiting (x.at c.args.hop.index))) popped)

@@ -1,64 +1,46 @@
-use Rattle.std.proofs.Common.{◌<◌, length, get_or, sym, ap, ap₂, ◌∙◌, arith}
-use mathlib.Core.Bool.{beq}
-use Rattle.frame.specs.Frames.{frame_value}
+use Rattle.std.proofs.Common.{◌≡◌, ◌<◌, ℕ, Bool, List, Some, length, get_or, sym, ap, ap₂, ◌∙◌, subst}
+use Rattle.std.proofs.lemmas.Option.{slice_get-get_or}
+use Rattle.frame.specs.Frames.{FrameValue}
 use Rattle.plant.specs.Questions.{no_frame}
 use Rattle.tunnel.specs.Tunnels.{keep}
-use Rattle.tunnel.specs.Inner.{picks}
-use Rattle.tunnel.proofs.Counts.{keep_yes, keep_no, keep_nth}
-use Rattle.tunnel.proofs.Reading.{is_told, told_is, waits_there, waits_is, picks_is}
+use Rattle.tunnel.specs.Inner.{picks, places}
+use Rattle.tunnel.proofs.Counts.{place_told, place_within, place_read}
+use Rattle.tunnel.proofs.Reading.{waits_there, waits_is, place_found}
 use Rattle.tunnel.proofs.open.Open.nth.Goals as goal
-use Rattle.tunnel.proofs.open.Open.nth.Goals.{then-has_top-own+else-seen-at, else-has_top-own}
 
-pub unwrap-i-end-requires : goal.unwrap-i-end-requires
-unwrap-i-end-requires g c =
-    let t = c.args.self.now in
-    let p = t.path.now in
-    let v = g.P.Plant.value t.below.now in
-    is_told v.shape c.at-line.result (length (v.waiting c.at-line.result)) c.waits.result c.at-line.ensures.exists c.waits.ensures
+-- there are more frames to pick from than come before the one that is asked for
+more : (own : Bool) (q : ℕ → List FrameValue) (at k l label n : ℕ) → l ≡ at → k ≡ label → n < length (keep (picks own label) (q at)) → n < length (keep (picks own k) (q l))
+more own q at k l label n a b lt = subst (λ m. n < m) (sym (ap₂ (λ i j. length (keep (picks own j) (q i))) a b)) lt
 
-pub unwrap-frame-requires : goal.unwrap-frame-requires
-unwrap-frame-requires g c =
-    let t = c.args.self.now in
-    let p = t.path.now in
-    let v = g.P.Plant.value t.below.now in
+pub unwrap-place-requires : goal.unwrap-place-requires
+unwrap-place-requires g c =
+    let v = g.P.Plant.value c.args.self.now.below.now in
     let l = c.at-line.result in
-    let xs = v.waiting l in
-    let t = picks c.args.own c.label-label.result in
-    let i = c.loop-i.i in
-    let end = told_is v.shape l (length xs) c.waits.result c.at-line.ensures.exists c.waits.ensures c.unwrap-i-end.result c.unwrap-i-end.ensures in
-    let lt : i < length xs = omega (arith, end, c.loop-i-test.true) in
-    waits_there v l i c.waiting.result c.waiting.ensures c.at-line.ensures.exists lt
+    let k = c.label-label.result in
+    let lt = more c.args.own v.waiting _ k l _ c.args.at c.at-line.ensures.is c.label-label.ensures c.requires.at in
+    place_found c.place.result (c.place.ensures ∙ slice_get-get_or (places c.args.own k (v.waiting l)) c.args.at 0 (place_told (picks c.args.own k) (v.waiting l) no_frame c.args.at lt))
 
-pub returns-then-seen-at : goal.returns-then-seen-at
-returns-then-seen-at g c =
-    let t = c.args.self.now in
-    let p = t.path.now in
-    let v = g.P.Plant.value t.below.now in
+pub unwrap-requires : goal.unwrap-requires
+unwrap-requires g c =
+    let v = g.P.Plant.value c.args.self.now.below.now in
     let l = c.at-line.result in
-    let xs = v.waiting l in
-    let t = picks c.args.own c.label-label.result in
-    let i = c.loop-i.i in
-    let end = told_is v.shape l (length xs) c.waits.result c.at-line.ensures.exists c.waits.ensures c.unwrap-i-end.result c.unwrap-i-end.ensures in
-    let lt : i < length xs = omega (arith, end, c.loop-i-test.true) in
-    let fv = waits_is v l i c.waiting.result c.waiting.ensures c.unwrap-frame.result c.unwrap-frame.ensures in
-    let is = ap t (sym fv) ∙ picks_is c.args.own c.label-label.result (frame_value c.unwrap-frame.result) ∙ ap (λ b. beq b c.args.own) (sym c.has_top.ensures) in
-    fv ∙ sym (keep_nth t xs i no_frame lt (is ∙ c.if-has_top-own.true)) ∙ ap (λ n. get_or (keep t xs) n no_frame) (sym c.loop-i.invariant.counted ∙ c.if-seen-at.true)
+    let k = c.label-label.result in
+    let lt = more c.args.own v.waiting _ k l _ c.args.at c.at-line.ensures.is c.label-label.ensures c.requires.at in
+    let e : Some c.unwrap-place.result ≡ Some (get_or (places c.args.own k (v.waiting l)) c.args.at 0) =
+    sym c.unwrap-place.ensures ∙ c.place.ensures ∙ slice_get-get_or (places c.args.own k (v.waiting l)) c.args.at 0 (place_told (picks c.args.own k) (v.waiting l) no_frame c.args.at lt) in
+    let is : c.unwrap-place.result ≡ get_or (places c.args.own k (v.waiting l)) c.args.at 0 = cc in
+    waits_there v l c.unwrap-place.result c.waiting.result c.waiting.ensures c.at-line.ensures.exists
+    (subst (λ n. n < length (v.waiting l)) (sym is) (place_within (picks c.args.own k) (v.waiting l) no_frame c.args.at lt))
+
+pub returns : goal.returns
+returns g c =
+    let v = g.P.Plant.value c.args.self.now.below.now in
+    let l = c.at-line.result in
+    let k = c.label-label.result in
+    let lt = more c.args.own v.waiting _ k l _ c.args.at c.at-line.ensures.is c.label-label.ensures c.requires.at in
+    let e : Some c.unwrap-place.result ≡ Some (get_or (places c.args.own k (v.waiting l)) c.args.at 0) =
+    sym c.unwrap-place.ensures ∙ c.place.ensures ∙ slice_get-get_or (places c.args.own k (v.waiting l)) c.args.at 0 (place_told (picks c.args.own k) (v.waiting l) no_frame c.args.at lt) in
+    let is : c.unwrap-place.result ≡ get_or (places c.args.own k (v.waiting l)) c.args.at 0 = cc in
+    waits_is v l c.unwrap-place.result c.waiting.result c.waiting.ensures c.unwrap.result c.unwrap.ensures
+    ∙ ap (λ n. get_or (v.waiting l) n no_frame) is ∙ place_read (picks c.args.own k) (v.waiting l) no_frame c.args.at lt
     ∙ ap₂ (λ n k. get_or (keep (picks c.args.own k) (v.waiting n)) c.args.at no_frame) c.at-line.ensures.is c.label-label.ensures
-
-pub loop-i-preserved : goal.loop-i-preserved
-loop-i-preserved g c =
-    let t = c.args.self.now in
-    let p = t.path.now in
-    let v = g.P.Plant.value t.below.now in
-    let l = c.at-line.result in
-    let xs = v.waiting l in
-    let t = picks c.args.own c.label-label.result in
-    let i = c.loop-i.i in
-    let end = told_is v.shape l (length xs) c.waits.result c.at-line.ensures.exists c.waits.ensures c.unwrap-i-end.result c.unwrap-i-end.ensures in
-    let lt : i < length xs = omega (arith, end, c.loop-i-test.true) in
-    let fv = waits_is v l i c.waiting.result c.waiting.ensures c.unwrap-frame.result c.unwrap-frame.ensures in
-    let is = ap t (sym fv) ∙ picks_is c.args.own c.label-label.result (frame_value c.unwrap-frame.result) ∙ ap (λ b. beq b c.args.own) (sym c.has_top.ensures) in
-    elim c.if-has_top-own.branch [
-      | then-has_top-own+else-seen-at w ↦ let a = keep_yes t xs i no_frame lt (is ∙ w.if-has_top-own.true) in record { counted = omega (arith, a, w.seen-is, c.loop-i.invariant.counted); few = omega (arith, w.seen-is, w.if-seen-at.false, c.loop-i.invariant.few) }
-      | else-has_top-own w ↦ let a = keep_no t xs i no_frame lt (is ∙ w.if-has_top-own.false) in record { counted = omega (arith, a, w.seen-is, c.loop-i.invariant.counted); few = omega (arith, w.seen-is, c.loop-i.invariant.few) }
-    ]

@@ -1,6 +1,11 @@
-use Rattle.std.proofs.Common.{None, ◌≡◌, suc, ◌+◌, ◌<◌, ltb, length, sym, refl, ap, ◌∙◌, add-one, arith, length-append}
-use Rattle.tunnel.specs.Tunnels.{gather, hop_frames, way_of}
+use Rattle.std.proofs.Common.{None, ◌<◌, ltb, length, sym, ap, ◌∙◌, rules, arith}
+use borrow.Author.Tests.{tests}
+use Rattle.std.proofs.lemmas.Iterator.{YieldsList-from_range, YieldsList-from_map, serves_from_Range}
+use Rattle.std.proofs.lemmas.Iterator.Consumers.{sum_from_yields_List, fits_from_yields_list}
+use Rattle.tunnel.specs.Tunnels.{hop_frames, way_of}
 use Rattle.tunnel.specs.Paths.{marked}
+use Rattle.tunnel.proofs.Counts.{sum_first}
+use Rattle.tunnel.proofs.Rooms.{gather_length}
 use Rattle.tunnel.proofs.Reading.{OwnLine, hop_waits, free_list, front_small, way_list, is_told, told_is}
 use Rattle.tunnel.proofs.open.Open.waits.Goals as goal
 
@@ -41,35 +46,19 @@ returns-in-None g c =
     told_is v.shape c.args.line (length (v.waiting c.args.line)) c.waits.result lt c.waits.ensures c.unwrap-all.result c.unwrap-all.ensures
     ∙ ap length (sym (free_list p v c.args.line lt (marked p t.ok.path.links c.args.line None c.in-None.ensures).1))
 
-pub loop-index-init : goal.loop-index-init
-loop-index-init g c = refl
-
--- the sum with one hop more
-more : (g : _) (c : goal.After-carried-sum g) → c.loop-index.sum + c.carried-sum.result
-    ≡ length (gather (hop_frames (g.P.Plant.value c.args.self.now.below.now).waiting (way_of (ltb c.args.self.now.path.now.below c.args.line) c.args.self.now.path.now)) (c.loop-index.index + 1))
-more g c =
-    let t = c.args.self.now in
-    let p = t.path.now in
-    let v = g.P.Plant.value t.below.now in
-    let i = c.loop-index.index in
-    let f = hop_frames v.waiting (way_of (ltb p.below c.args.line) p) in
-    let a : c.carried-sum.result ≡ length (f i) = c.carried-sum.ensures in
-    let d = length-append (f i) (gather f i) in
-    let e : length (gather f (i + 1)) ≡ length (gather f (suc i)) = ap (λ n. length (gather f n)) (add-one i) in
-    omega (arith, a, d, e, c.loop-index.invariant)
-
-pub overflow_add-sum : goal.overflow_add-sum
-overflow_add-sum g c =
+pub sum-requires-clause-fits : goal.sum-requires-clause-fits
+sum-requires-clause-fits g c =
     let t = c.args.self.now in
     let p = t.path.now in
     let v = g.P.Plant.value t.below.now in
     let at : OwnLine p v c.args.line = record { law = g.met.P.Plant.lawful t.below.now; ok = t.ok; own_line = c.if-line-self.false; exists = c.requires } in
-    let a = front_small at (c.loop-index.index + 1) (omega arith) in
-    let b = more g c in
-    omega (arith, a, b)
-
-pub loop-index-preserved : goal.loop-index-preserved
-loop-index-preserved g c = more g c
+    let f = hop_frames v.waiting (way_of (ltb p.below c.args.line) p) in
+    let all = sum_first (λ i. length (f i)) p.len in
+    let some = gather_length f p.len in
+    let small = front_small at p.len (omega arith) in
+    fits_from_yields_list c.map.result _
+    (YieldsList-from_map _ (λ i. length (f i)) (YieldsList-from_range 0 p.len p.len (cc) (omega arith)) c.map.ensures.closure (λ x r q k. search (rules, tests)))
+    (omega (arith, all, some, small))
 
 pub returns : goal.returns
 returns g c =
@@ -77,5 +66,10 @@ returns g c =
     let p = t.path.now in
     let v = g.P.Plant.value t.below.now in
     let at : OwnLine p v c.args.line = record { law = g.met.P.Plant.lawful t.below.now; ok = t.ok; own_line = c.if-line-self.false; exists = c.requires } in
-    let e : c.loop-index.index ≡ p.len = omega arith in
-    c.loop-index.invariant ∙ ap (λ n. length (gather (hop_frames v.waiting (way_of (ltb p.below c.args.line) p)) n)) e ∙ ap length (way_list at)
+    let f = hop_frames v.waiting (way_of (ltb p.below c.args.line) p) in
+    sum_from_yields_List c.map.result c.sum.result c.sum.ensures.ran
+    (YieldsList-from_map _ (λ i. length (f i)) (YieldsList-from_range 0 p.len p.len (cc) (omega arith)) c.map.ensures.closure (λ x r q k. search (rules, tests)))
+    ∙ sum_first (λ i. length (f i)) p.len ∙ sym (gather_length f p.len) ∙ ap length (way_list at)
+
+pub sum-requires-clause-can : goal.sum-requires-clause-can
+sum-requires-clause-can g c = (tt, serves_from_Range (λ x q k. search (rules, tests)) (λ x low high. search rules))
