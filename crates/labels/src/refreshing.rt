@@ -1,4 +1,4 @@
-// How labels are bound, let go and freed.
+// How labels are bound, let go and freed. Each says that the wiring stays: a type cannot say what a call leaves as it was.
 ghost use Rattle.std.specs.Prelude.{◌≡◌, ◌<◌, Bool, ◌&&◌, None};
 ghost use Rattle.plant.specs.Plants.{Shape};
 ghost use Rattle.model.specs.Tables.{Tables, blank, untold, put2, with_labels, free_label, may_bind, grant, let_go, unbind, tidy, refresh, is_leaving};

@@ -1,4 +1,4 @@
-// The five calls.
+// The five calls. Each says what stays (`Keeps`): a type cannot say what a call leaves as it was. Own and route only hand on.
 ghost use Rattle.std.specs.Prelude.{◌≡◌};
 ghost use Rattle.model.specs.Calls.{own, route, inject, tell, poll};
 ghost use Rattle.model.specs.History.{Did};

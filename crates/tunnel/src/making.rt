@@ -37,7 +37,7 @@ impl<P: Plant> Tunnel<P> {
         Tunnel { below, route }
     }
 
-    // Why the tunnel is void, if it is.
+    // Why the tunnel is void, if it is. An Option, since to ask is no call that can be refused.
     pub fn fault(&self) -> Option<Refusal>
         ensures { result ≡ result_err self.now.route }
     {

@@ -26,10 +26,12 @@ pub struct Path {
 // A hop of a direction, counted from 0 as a frame travels.
 #[derive(Clone, Copy)]
 pub struct Hop {
+    // a flag, as in the specifications: forth or back, and nothing else hangs on it
     pub(crate) back: bool,
     pub(crate) index: usize,
 }
 
+// What holds of a path is asked, and not in its type: a path is made before it is judged.
 impl Path {
     // The lines of the hops forth.
     pub(crate) fn hops(&self) -> &[usize]

@@ -10,6 +10,7 @@ use crate::path::Hop;
 use frame::Frame;
 use plant::Plant;
 
+// That a line is one of the tunnel's stays asked: a line's number cannot say of which tunnel.
 impl<P: Plant> Open<'_, P> {
     // The routers where a line begins and ends.
     pub(crate) fn ends(&self, line: usize) -> (usize, usize)

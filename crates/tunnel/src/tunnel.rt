@@ -1,4 +1,5 @@
-// A tunnel as a plant. A void one passes all calls through to the plant below.
+// A tunnel as a plant. A void one passes all calls through to the plant below. Each question has the same arms: one function
+// over the question would take two closures, and be no plainer.
 ghost use Rattle.std.specs.Prelude.{◌≡◌};
 ghost use Rattle.std.specs.Option.{option_map};
 ghost use Rattle.frame.specs.Frames.{frame_value};
