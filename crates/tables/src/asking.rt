@@ -1,4 +1,4 @@
-// Questions of the tables. What is out of range is off, none, free or untold.
+// Questions of the tables. What is out of range is off, none, free or untold, so each takes any numbers.
 ghost use Rattle.std.specs.Prelude.{◌≡◌, true};
 ghost use Rattle.model.specs.Tables.{may_bind};
 ghost use Rattle.labels.specs.Pools.{status_of};
