@@ -6,6 +6,7 @@ ghost use Rattle.book.specs.Tables.{Found, Ended};
 use crate::end::End;
 use crate::packet::Record;
 
+// A struct inside the book, as the project's rules name it.
 #[derive(Drop)]
 pub(crate) struct Table<A> {
     pub(crate) records: Vec<Record<A>>,

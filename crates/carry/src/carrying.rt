@@ -107,6 +107,7 @@ impl<P: Plant> Carrier<P> {
         ensures { IfOk result (λ some. Passed (P.Plant.value self.old.plant) some (P.Plant.value self.new.plant)) }
     {
         let mut some = false;
+        // over numbers, as in `describe`
         for port in 0..self.plant.ports() {
             match self.poll(rt, port)? {
                 Outcome::Idle => {}

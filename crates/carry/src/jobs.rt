@@ -4,7 +4,8 @@ use frame::{Entry, Frame, Kind, Stack};
 use ring::{Link, Ring};
 use tunnel::Tunnel;
 
-// A packet under one label.
+// A packet under one label. Of plain numbers, as a message here: the network's own frames take a Label, and labels that a plant
+// keeps are sent here too.
 fn data(label: u32, packet: u32) -> Frame {
     let mut stack = Stack::new();
     let _ = stack.push(Entry {

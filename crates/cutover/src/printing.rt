@@ -15,7 +15,7 @@ pub enum Answer {
     Packet(usize),
     // the kind of the message that was sent, if one was due
     Told(Option<Kind>),
-    // what a poll met, and the line that it came out of
+    // what a poll met, and the line that it came out of: a pair, as the network's poll answers
     Met(Met, usize),
 }
 

@@ -6,6 +6,7 @@ use network::Network;
 use plant::Plant;
 use std::{fmt, io};
 
+// Data and no closures, since a step is printed before its call is made.
 #[derive(Clone, Copy)]
 pub enum Step {
     // a router, a FEC and a mark

@@ -14,6 +14,7 @@ pub struct Grid<
     const END: usize,
     const CELLS: usize,
 > {
+    // one flat array, as the project's rules name it: no memory is taken for it
     pub(crate) cells: [T; CELLS],
     ghost fits: { ROWS * (END - FIRST) ≡ CELLS },
 }

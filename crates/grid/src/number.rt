@@ -28,7 +28,7 @@ pub type FecNumber = Number<0, 32>;
 pub type Label = Number<16, 80>;
 
 impl<const FIRST: usize, const END: usize> Number<FIRST, END> {
-    // The number, if it is in range.
+    // The number, if it is in range. No TryFrom: that needs an error type which says nothing.
     pub fn new(number: usize) -> Option<Self>
         ensures { result ≡ cond (nat_le FIRST number && nat_lt number END) (Some number) None }
     {

@@ -14,7 +14,8 @@ impl Wiring {
         }
     }
 
-    // One line more, the last; false, and nothing changes, if there are 48.
+    // One line more, the last; false, and nothing changes, if there are 48. A bool: one thing can fail, and a Result would need an
+    // error that says nothing.
     pub fn add(&mut self, from: usize, to: usize) -> bool
         ensures { Adds self.old from to result self.new }
     {

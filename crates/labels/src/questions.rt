@@ -1,4 +1,5 @@
-// Questions of the labels. What is out of range is free, untold or none.
+// Questions of the labels. What is out of range is free, untold or none, so each takes any numbers. Each hands on to the pool or
+// the stages, in one line.
 ghost use Rattle.std.specs.Prelude.{◌≡◌, nat_eq};
 ghost use Rattle.model.specs.Tables.{Tables, fec_of, label_of, first_label};
 ghost use Rattle.labels.specs.Numbers.{stage_number};

@@ -15,7 +15,8 @@ pub enum Status {
 }
 
 impl Status {
-    // The FEC that a label is bound to or leaving, else 0.
+    // The FEC that a label is bound to or leaving, else 0. No Option: the one use writes it into a message, which has a number
+    // there in any case, and the model's `fec_of` has 0 too.
     pub fn fec(self) -> u32
         ensures { result ≡ fec_of (status_of self) }
     {

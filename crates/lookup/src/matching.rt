@@ -20,6 +20,7 @@ pub fn longest_match<T: AddressKind>(table: &[Fec], address: &T) -> Option<usize
     ensures named { result ≡ longest_of (covers_by T.agrees T.held address.now) table.now }
     ensures best { Best (covers_by T.agrees T.held address.now) table.now result }
 {
+    // a loop: `max_by_key` gives the last of equals, and the first is promised
     let mut best: Option<usize> = None;
     for (i, fec) in table.iter().enumerate() {
         if covered(fec, address) && best.is_none_or(|b| table[b].len() < fec.len()) {

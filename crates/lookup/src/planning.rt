@@ -43,7 +43,8 @@ impl Setting {
 }
 
 impl Plan {
-    // A plan of 1 to 16 routers and policy 0 or 1, else a void one. It has room for all its FECs from the start.
+    // A plan of 1 to 16 routers and policy 0 or 1, else a void one. It has room for all its FECs from the start. The policy is a
+    // number here, since a caller may give one that names none: then the plan is void, and says so.
     pub fn new(heap: Global, routers: u32, policy: u32) -> Result<Plan, AllocError>
         ensures { IfOk result (λ p. NewPlan routers policy p) }
     {
@@ -56,6 +57,7 @@ impl Plan {
     pub fn fault(&self) -> Option<Refusal>
         ensures { told_by result ≡ (if void_of self.now then Some 7 else None) }
     {
+        // a match: `ok_or` and then `err` is no plainer
         match self.setting {
             Some(_) => None,
             None => Some(Refusal::OutOfRange),

@@ -28,6 +28,7 @@ fn line_back(line: usize) -> Line
 
 // Line, FEC and label stay three arguments: they are what came in a frame, whose numbers `named` judges at once.
 // That the network runs stays asked of each function: a type that says so would lend the routers twice, and be no plainer.
+// That a line is one of the wiring's stays asked too: a line's number cannot say of which wiring.
 impl Routers {
     // The FEC and the label that a message names, if there are such.
     fn named(&self, fec: u32, label: u32) -> Option<(FecNumber, Label)>

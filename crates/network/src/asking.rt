@@ -1,4 +1,5 @@
-// Questions of a network: why a packet ended where it did. Each hands on to the table or the book that knows, in one line.
+// Questions of a network: why a packet ended where it did. Each hands on to the table or the book that knows, in one line, and
+// takes any numbers.
 ghost use Rattle.std.specs.Prelude.{◌≡◌};
 ghost use Rattle.model.specs.Packets.{at};
 ghost use Rattle.model.specs.Promises.{count};

@@ -1,4 +1,5 @@
-// The five calls. Each says what stays (`Keeps`): a type cannot say what a call leaves as it was. Own and route only hand on.
+// The five calls. Each says what stays (`Keeps`): a type cannot say what a call leaves as it was. Each takes any numbers, the mark
+// of own among them, since it refuses those that name nothing. Own and route hand on in one line: they touch the routers alone.
 ghost use Rattle.std.specs.Prelude.{◌≡◌};
 ghost use Rattle.model.specs.Calls.{own, route, inject, tell, poll};
 ghost use Rattle.model.specs.History.{Did};
@@ -72,7 +73,8 @@ impl<P: Plant> Network<P> {
         Ok(Some(kind))
     }
 
-    // Polls a port of the plant, and lets the router at the end of the line see to a frame that comes out.
+    // Polls a port of the plant, and lets the router at the end of the line see to a frame that comes out. Answers a pair, as the
+    // plant does.
     pub fn poll(&mut self, port: usize) -> Result<(Met, usize), Refusal>
         ensures keeps { Keeps self.old.routers self.new.routers }
         ensures did { Did self.old.routers.still (plan_of self.old.routers.plan)

@@ -8,7 +8,7 @@ use frame::{Entry, Frame, Kind, Stack};
 use grid::Label;
 use tables::Message;
 
-// The frame of a message.
+// The frame of a message. A function and no From: neither type is of this crate.
 pub(crate) fn message_frame(message: &Message) -> Frame
     ensures { frame_value result ≡ message_value message.now.kind message.now.fec message.now.label }
 {

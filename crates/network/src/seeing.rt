@@ -20,6 +20,7 @@ fn top_ttl(stack: &Stack) -> u8
     stack.top().map_or(0, |entry| entry.ttl)
 }
 
+// That the network runs, and that a line is one of the plant's, stay asked for the reasons in arriving.rt and dealing.rt.
 impl<P: Plant> Network<P> {
     // A packet came out of a line.
     fn packet(&mut self, line: usize, packet: u32, stack: &Stack) -> Met

@@ -62,7 +62,8 @@ pub trait Plant {
         ensures sends { Sends (value self.old) line (frame_value frame) result (value self.new) }
         ensures future { future self.new ≡ option_map (after_send line (frame_value frame) result) (future self.old) };
 
-    // Lets the plant do one thing at a port; a frame that comes out goes to the caller's place.
+    // Lets the plant do one thing at a port; a frame that comes out goes to the caller's place. The answer is a pair, as `ends`
+    // is one: so the project's rules name them. The line is 0 where none is meant.
     fn poll(&mut self, port: usize, place: &mut Frame) -> (Outcome, usize)
         ensures polls { Polls (value self.old) port place.old result place.new (value self.new) }
         ensures turn { Foretold (future self.old) (λ b. turn_at b port ≡ turn_is result.0 result.1 (frame_value place.new)) }

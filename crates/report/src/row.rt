@@ -13,7 +13,7 @@ pub enum Row {
         line: usize,
         number: u8,
     },
-    // a packet that was taken in, and what became of it
+    // a packet that was taken in, and what became of it: fate, router and cause side by side, as in its record
     Packet {
         number: usize,
         ingress: usize,

@@ -21,6 +21,7 @@ fn lay(links: &[Link]) -> [Row; 32]
 {
     let mut rows = [Row::default(); 32];
     let mut base = 0;
+    // a loop: each link writes two rows, and the places are counted on from link to link
     for (i, link) in links.iter().enumerate() {
         let Link { a, b, cap } = *link;
         rows[2 * i] = Row {

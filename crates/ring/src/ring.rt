@@ -17,7 +17,7 @@ pub struct Ring {
 }
 
 impl Ring {
-    // Why the plant has no lines, if a rule was broken when it was made.
+    // Why the plant has no lines, if a rule was broken when it was made. An Option, since to ask is no call that can be refused.
     pub fn fault(&self) -> Option<Refusal>
         ensures { result ≡ self.now.fault }
     {

@@ -1,4 +1,5 @@
-// Questions of the tables. What is out of range is off, none, free or untold, so each takes any numbers.
+// Questions of the tables. What is out of range is off, none, free or untold, so each takes any numbers. Most hand on to the one
+// table that knows, in one line.
 ghost use Rattle.std.specs.Prelude.{◌≡◌, true};
 ghost use Rattle.model.specs.Tables.{may_bind};
 ghost use Rattle.labels.specs.Pools.{status_of};

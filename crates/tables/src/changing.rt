@@ -1,5 +1,6 @@
 // What own, route and arriving messages do to the tables. Each sets one table alone and then refreshes; the tables differ in
-// what is set, and the model has a word for each.
+// what is set, and the model has a word for each. A router and a FEC, or a line and a label, stay two arguments: they are the
+// row and the column of a grid, whose `set` takes them so.
 ghost use Rattle.std.specs.Prelude.{◌≡◌, ◌<◌, true, Some, None};
 ghost use Rattle.model.specs.Tables.{put2, refresh, with_routes, with_remote, with_labels, tidy, untold};
 ghost use Rattle.tables.specs.Rows.{is_below};

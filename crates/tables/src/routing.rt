@@ -7,6 +7,7 @@ ghost use Rattle.tables.specs.Grids.{owners_of, hops_of};
 use crate::routes::Routes;
 use grid::{FecNumber, Grid, Router};
 
+// One line each over a grid, as in Releases. That a next hop is below `lines` stays asked: a number cannot say of how many lines.
 impl Routes {
     // No router owns a FEC or has a next hop; a next hop may be one of so many lines.
     pub fn new(lines: usize) -> Routes

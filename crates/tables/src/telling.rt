@@ -15,6 +15,7 @@ use grid::{Label, Line};
 use labels::Stage;
 use plant::partner_of;
 
+// That a line is one of the wiring's stays asked: a line's number cannot say of which wiring.
 impl Tables {
     // News of the smallest label at a stage on the partner of a line, if there is one.
     fn news(&self, line: usize, kind: Kind, stage: Stage) -> Option<Message>

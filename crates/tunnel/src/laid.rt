@@ -1,4 +1,5 @@
-// A path whose lines exist in the plant below, and the spans along it.
+// A path whose lines exist in the plant below, and the spans along it. A type beside Open, with less known of the same pair: a
+// path is judged as one that is laid before it can be open.
 ghost use Rattle.std.specs.Prelude.{◌≡◌, ◌<◌, ◌≤◌};
 ghost use Rattle.std.proofs.Props.{props};
 ghost use Rattle.tunnel.specs.Tunnels.{way_of, hop_span, spans};

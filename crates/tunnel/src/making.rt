@@ -55,6 +55,7 @@ impl<P: Plant> Tunnel<P> {
     pub(crate) fn open(&self) -> Result<Open<'_, P>, Refusal>
         ensures { MatchResult result (λ o. (o.below.now ≡ self.now.below) × (self.now.route ≡ Ok o.path.now)) (λ e. self.now.route ≡ Err e) }
     {
+        // a match: a map of each side over `as_ref` is no plainer
         match &self.route {
             Ok(path) => Ok(Open {
                 below: &self.below,

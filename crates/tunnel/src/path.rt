@@ -23,7 +23,7 @@ pub struct Path {
     pub(crate) base: u32,
 }
 
-// A hop of a direction, counted from 0 as a frame travels.
+// A hop of a direction, counted from 0 as a frame travels. That it is one of a path's is asked: a hop cannot say of which path.
 #[derive(Clone, Copy)]
 pub struct Hop {
     // a flag, as in the specifications: forth or back, and nothing else hangs on it

@@ -122,7 +122,8 @@ impl<P: Plant> Open<'_, P> {
             .count()
     }
 
-    // Whether the frame at a place of a line has a label on top, or, if the others are asked for, whether it has not.
+    // Whether the frame at a place of a line has a label on top, or, if the others are asked for, whether it has not. A flag, as
+    // the specifications' `picks` has it.
     fn picked(&self, line: usize, place: usize, label: u32, own: bool) -> bool
         ensures { result ≡ picks own label (told_at (P.value self.now.below.now) line place) }
     {

@@ -60,6 +60,7 @@ fn apart(path: &Path) -> bool
     requires few { path.now.len ≤ 8 }
     ensures { MatchBool result (Apart path.now) (Apart path.now → ⊥) }
 {
+    // a loop: a chain in the closure of a chain is no plainer
     let hops = path.hops();
     for (i, two) in hops.iter().enumerate() {
         if hops[..i].iter().any(|one| same_link(*one, *two)) {
