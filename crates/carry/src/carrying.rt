@@ -109,10 +109,8 @@ impl<P: Plant> Carrier<P> {
         let mut some = false;
         // over numbers, as in `describe`
         for port in 0..self.plant.ports() {
-            match self.poll(rt, port)? {
-                Outcome::Idle => {}
-                Outcome::Moved => some = true,
-                Outcome::Handed => some = true,
+            if self.poll(rt, port)? != Outcome::Idle {
+                some = true;
             }
         }
         Ok(some)

@@ -3,6 +3,7 @@ use crate::printing::print_book;
 use crate::steps::{Step, take_all};
 use lookup::{Address, Plan};
 use network::start;
+use plant::Plant;
 use ring::{Link, Ring};
 use tunnel::Tunnel;
 
@@ -11,6 +12,19 @@ fn plan_of(rt: &impl AllocGlobal, routers: u32) -> anyhow::Result<Plan> {
     let mut plan = Plan::new(rt.alloc(), routers, 0)?;
     let _ = plan.add(Address::ipv4(0x0a00_0000), 8)?;
     Ok(plan)
+}
+
+// Takes the steps over a plant, under a plan of so many routers, and prints what became of the packets.
+fn rehearse<P: Plant + Drop>(
+    rt: &(impl AllocGlobal + Print),
+    routers: u32,
+    plant: P,
+    steps: &[Step],
+) -> anyhow::Result<()> {
+    let mut net = start(rt.alloc(), plan_of(rt, routers)?, plant)?;
+    take_all(rt, &mut net, steps)?;
+    print_book(rt, &net)?;
+    Ok(())
 }
 
 // The way from router 0 to router 2 is cut over from router 1 to router 3, while packets are under way.
@@ -22,20 +36,12 @@ pub fn over_a_ring(rt: &(impl AllocGlobal + Print)) -> anyhow::Result<()> {
         Link { a: 0, b: 3, cap: 2 },
         Link { a: 3, b: 2, cap: 2 },
     ];
-    let mut net = start(
-        rt.alloc(),
-        plan_of(rt, 4)?,
-        Ring::with_room(rt.alloc(), &links)?,
-    )?;
-    take_all(rt, &mut net, &BY_ROUTER_1)?;
-    take_all(rt, &mut net, &BY_ROUTER_3)?;
-    take_all(rt, &mut net, &AFTERWARDS)?;
-    print_book(rt, &net)?;
-    Ok(())
+    rehearse(rt, 4, Ring::with_room(rt.alloc(), &links)?, &CUTOVER)
 }
 
-// Labels are told from router 2 back to router 0; a packet is delivered, others are dropped.
-const BY_ROUTER_1: [Step; 14] = [
+// The steps of that rehearsal.
+const CUTOVER: [Step; 31] = [
+    // Labels are told from router 2 back to router 0; a packet is delivered, others are dropped.
     Step::Route(1, 0, Some(2)),
     Step::Route(0, 0, Some(0)),
     Step::Route(3, 0, Some(6)),
@@ -50,10 +56,7 @@ const BY_ROUTER_1: [Step; 14] = [
     Step::Inject(0, 0x0a01_0203, 1),
     Step::Inject(3, 0x0a01_0203, 64),
     Step::Inject(0, 0x0b00_0000, 64),
-];
-
-// The cutover, with a packet on the old way and one on the new.
-const BY_ROUTER_3: [Step; 8] = [
+    // The cutover, with a packet on the old way and one on the new.
     Step::Tell(7),
     Step::Poll(7),
     Step::Inject(0, 0x0a01_0203, 64),
@@ -62,10 +65,7 @@ const BY_ROUTER_3: [Step; 8] = [
     Step::Route(0, 0, Some(4)),
     Step::Inject(0, 0x0a01_0203, 64),
     Step::Route(1, 0, None),
-];
-
-// The old label is withdrawn and released; a line fills up.
-const AFTERWARDS: [Step; 9] = [
+    // The old label is withdrawn and released; a line fills up.
     Step::Poll(0),
     Step::Tell(1),
     Step::Poll(1),
@@ -82,7 +82,6 @@ pub fn over_a_tunnel(rt: &(impl AllocGlobal + Print)) -> anyhow::Result<()> {
     println!(rt; "over a tunnel from router 0 to router 2")?;
     let links = [Link { a: 0, b: 1, cap: 4 }, Link { a: 1, b: 2, cap: 4 }];
     let plant = Tunnel::new(Ring::with_room(rt.alloc(), &links)?, &[0, 2], 2);
-    let mut net = start(rt.alloc(), plan_of(rt, 3)?, plant)?;
     let steps = [
         Step::Route(0, 0, Some(4)),
         Step::Own(2, 0, 1),
@@ -94,9 +93,7 @@ pub fn over_a_tunnel(rt: &(impl AllocGlobal + Print)) -> anyhow::Result<()> {
         Step::Poll(2),
         Step::Inject(0, 0x0a01_0203, 64),
     ];
-    take_all(rt, &mut net, &steps)?;
-    print_book(rt, &net)?;
-    Ok(())
+    rehearse(rt, 3, plant, &steps)
 }
 
 // And through a tunnel over that tunnel.
@@ -110,7 +107,7 @@ pub fn over_two_tunnels(rt: &(impl AllocGlobal + Print)) -> anyhow::Result<()> {
         Link { a: 2, b: 3, cap: 4 },
     ];
     let lower = Tunnel::new(Ring::with_room(rt.alloc(), &links)?, &[0, 2], 2);
-    let mut net = start(rt.alloc(), plan_of(rt, 4)?, Tunnel::new(lower, &[6, 4], 1))?;
+    let plant = Tunnel::new(lower, &[6, 4], 1);
     let steps = [
         Step::Route(0, 0, Some(8)),
         Step::Own(3, 0, 1),
@@ -123,7 +120,5 @@ pub fn over_two_tunnels(rt: &(impl AllocGlobal + Print)) -> anyhow::Result<()> {
         Step::Poll(2),
         Step::Poll(4),
     ];
-    take_all(rt, &mut net, &steps)?;
-    print_book(rt, &net)?;
-    Ok(())
+    rehearse(rt, 4, plant, &steps)
 }

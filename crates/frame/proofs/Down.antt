@@ -38,3 +38,8 @@ down_swap xs (suc n) e h b =
     let q : suc n - 1 ≡ n = omega arith in
     let le : n ≤ n = omega arith in
     ap (λ k. down_from (set xs k e) (suc n)) q ∙ ap₂ ◌∷◌ (get_or-set_same xs n e none b) (down_above xs n n e le)
+
+-- the same of any table, the empty one too
+pub down_less : (es : List Entry) (n : ℕ) → down_from es (n - 1) ≡ rest_of (down_from es n)
+down_less es zero = refl
+down_less es (suc n) = down_rest es (suc n) (λ e. omega (arith, e))

@@ -40,18 +40,7 @@ impl Stack {
     pub fn top(&self) -> Option<Entry>
         ensures { result ≡ top_of (entries_of self.now) }
     {
-        if self.len() == 0 {
-            return None;
-        }
-        Some(self.highest())
-    }
-
-    // The top entry of a stack that has one.
-    fn highest(&self) -> Entry
-        requires { 0 < length (entries_of self.now) }
-        ensures { top_of (entries_of self.now) ≡ Some result }
-    {
-        self.entries[self.len - 1]
+        self.entries[..self.len].last().copied()
     }
 
     // One entry more on top, or a refusal that changes nothing.
@@ -98,9 +87,7 @@ impl Stack {
     fn shorten(&mut self)
         ensures { entries_of self.new ≡ rest_of (entries_of self.old) }
     {
-        if self.len > 0 {
-            self.len -= 1;
-        }
+        self.len = self.len.saturating_sub(1);
     }
 }
 

@@ -18,17 +18,11 @@ fn release(a: u32) -> Frame {
 // The number that a plant of so many equal links in so many places tells, 0 if none.
 fn told(heap: Global, count: usize, link: Link, places: usize) -> Result<u8, AllocError> {
     let mut links = Vec::new(heap);
-    for _ in 0..count {
-        links.push(link)?;
-    }
+    links.resize(count, link)?;
     let mut frames = Vec::new(heap);
-    for _ in 0..places {
-        frames.push(release(0))?;
-    }
-    Ok(match Ring::new(links.as_slice(), frames).fault() {
-        Some(refusal) => refusal.number(),
-        None => 0,
-    })
+    frames.resize(places, release(0))?;
+    let plant = Ring::new(links.as_slice(), frames);
+    Ok(plant.fault().map_or(0, Refusal::number))
 }
 
 #[test]

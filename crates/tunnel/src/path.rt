@@ -71,11 +71,7 @@ impl Path {
     {
         let hop = self.hop_on(line)?;
         let top = frame.stack.top()?;
-        if top.label == self.label(hop) {
-            Some(hop)
-        } else {
-            None
-        }
+        (top.label == self.label(hop)).then_some(hop)
     }
 
     // The hop forth on whose link a hop is.

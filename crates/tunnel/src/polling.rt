@@ -101,16 +101,10 @@ fn relabel(mut frame: Frame, label: u32) -> Frame
 fn next_outer(frame: &Frame, label: u32) -> Entry
     ensures { result ≡ next_outer label (frame_value frame.now).stack }
 {
-    match frame.stack.top() {
-        Some(top) => Entry {
-            label,
-            tc: top.tc,
-            ttl: top.ttl.saturating_sub(1),
-        },
-        None => Entry {
-            label,
-            tc: 0,
-            ttl: 0,
-        },
+    let top = frame.stack.top().unwrap_or_default();
+    Entry {
+        label,
+        ttl: top.ttl.saturating_sub(1),
+        ..top
     }
 }

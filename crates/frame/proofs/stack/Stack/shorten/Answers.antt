@@ -1,9 +1,7 @@
-use Rattle.std.proofs.Common.{◌≢◌, arith}
-use Rattle.frame.proofs.Down.{down_rest}
+use Rattle.std.proofs.Common.{ap, ◌∙◌}
+use Rattle.frame.specs.Stacks.{down_from}
+use Rattle.frame.proofs.Down.{down_less}
 use Rattle.frame.proofs.stack.Stack.shorten.Goals as goal
 
-pub returns-then-self-gt0 : goal.returns-then-self-gt0
-returns-then-self-gt0 c =
-    let s = c.args.self.now in
-    let some : s.len ≢ 0 = omega (arith, c.if-self-gt0.true) in
-    down_rest s.entries s.len some
+pub returns : goal.returns
+returns c = let s = c.args.self.now in ap (down_from s.entries) c.saturating_sub-self.ensures ∙ down_less s.entries s.len
