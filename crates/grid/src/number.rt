@@ -54,7 +54,7 @@ impl Label {
         requires { F.IsAlwaysCallable test }
         ensures { (p : ℕ → Bool) → ((l : ℕ) → 16 ≤ l → l < 80 → (b : Bool) → F.post test l b → b ≡ p l) → result ≡ first_label p }
     {
-        // by `for`: a search over the range would make each label by `new`, which asks again what is known here, and be no plainer
+        // by `for`: as a chain of `filter_map` and `find` over the range it was tried, and its promise was not proved
         for number in 16..80 {
             let label = Number { number };
             if test(label) {
