@@ -18,7 +18,7 @@ use labels::Stage;
 use model::Met;
 use plant::partner_of;
 
-// The line back to where a line began.
+// The line back to where a line began. The tables' `told` writes the same expression: a function for two uses is no plainer.
 fn line_back(line: usize) -> Line
     requires { line < 48 }
     ensures { result ≡ partner line }

@@ -56,6 +56,7 @@ impl Tables {
     fn told(&mut self, line: Line, label: Label, stage: Stage)
         ensures { Turned self.old (λ t. with_labels t.status (put2 t.stage (partner line) label (stage_number stage)) t) self.new }
     {
+        // as `line_back` of the network: a function for two uses is no plainer
         let back = Line::new(partner_of(line.number())).unwrap();
         self.labels.set_stage(back, label, stage);
     }
