@@ -1,5 +1,5 @@
 -- How many of the first elements of a list pass, and sums over the first numbers. Assumes nothing.
-use Rattle.std.proofs.Common.{◌≡◌, ℕ, zero, suc, ◌+◌, ◌*◌, ◌<◌, ◌≤◌, Bool, true, false, cond, List, [], ◌∷◌, map, length, get_or, sym, refl, ap, ap₂, ◌∙◌, add-one, arith}
+use Rattle.std.proofs.Common.{◌≡◌, ℕ, zero, suc, ◌+◌, ◌*◌, ◌<◌, ◌≤◌, Bool, true, false, cond, List, [], ◌∷◌, map, length, get_or, Some, Option, sym, refl, ap, ap₂, ◌∙◌, add-one, arith}
 use lib.ListN.{length-map}
 use Rattle.std.specs.List.{filter, range_with_len, sum}
 use Rattle.std.proofs.lemmas.List.{get_or-map}
@@ -34,32 +34,20 @@ module _ {X : Type 0} (t : X → Bool) where
       sym (length-map (filter (λ i. t (get_or xs i d)) (range_with_len 0 (length xs))) (λ i. get_or xs i d))
       ∙ ap length (places_kept (λ i. get_or xs i d) 0 xs d (λ i lt. let z : 0 + i ≡ i = omega arith in ap (λ n. get_or xs n d) z))
 
--- what passes among the numbers from a on is below their end
-pub filter_within : (t : ℕ → Bool) (a n k : ℕ) → k < length (filter t (range_with_len a n)) → get_or (filter t (range_with_len a n)) k 0 < a + n
-filter_within t a zero k lt = absurd (omega arith)
-filter_within t a (suc n) k lt = go (t a) k (λ j b. filter_within t (a + 1) n j b) lt
+-- the elements of a list, read place by place
+pub read_all : {X : Type 0} (f : ℕ → X) (a : ℕ) (xs : List X) (d : X) → ((i : ℕ) → i < length xs → f (a + i) ≡ get_or xs i d) → map f (range_with_len a (length xs)) ≡ xs
+read_all f a [] d h = refl
+read_all f a (x ∷ xs) d h = ap₂ ◌∷◌ (let z : a ≡ a + 0 = omega arith in ap f z ∙ h 0 (omega arith))
+    (read_all f (a + 1) xs d (λ i lt. let z : a + 1 + i ≡ a + suc i = omega arith in ap f z ∙ h (suc i) (omega arith)))
+
+-- the library's filter, over a list of which each is there, and the tunnel's own
+pub filter_some : {X : Type 0} (t : Option X → Bool) (u : X → Bool) → ((x : X) → t (Some x) ≡ u x) → (xs : List X) → filter t (map Some xs) ≡ map Some (keep u xs)
+filter_some t u h [] = refl
+filter_some t u h (x ∷ xs) = ap₂ (λ b ys. cond b (Some x ∷ ys) ys) (h x) (filter_some t u h xs) ∙ go (u x)
   where
-    go : (b : Bool) (k : ℕ) → ((j : ℕ) → j < length (filter t (range_with_len (a + 1) n)) → get_or (filter t (range_with_len (a + 1) n)) j 0 < a + 1 + n)
-        → k < length (cond b (a ∷ filter t (range_with_len (a + 1) n)) (filter t (range_with_len (a + 1) n)))
-        → get_or (cond b (a ∷ filter t (range_with_len (a + 1) n)) (filter t (range_with_len (a + 1) n))) k 0 < a + suc n
-    go true zero ih b = omega arith
-    go true (suc j) ih b = let c = ih j (omega arith) in omega arith
-    go false k ih b = let c = ih k b in omega arith
-
--- the place of the n-th element that passes, of more than n
-module _ {X : Type 0} (t : X → Bool) (xs : List X) (d : X) (n : ℕ) (lt : n < length (keep t xs)) where
-  abbrev places : List ℕ
-  places = filter (λ i. t (get_or xs i d)) (range_with_len 0 (length xs))
-
-  pub place_told : n < length places
-  place_told = let a = places_count t xs d in omega (arith, a, lt)
-
-  pub place_within : get_or places n 0 < length xs
-  place_within = let a = filter_within (λ i. t (get_or xs i d)) 0 (length xs) n place_told in omega (arith, a)
-
-  pub place_read : get_or xs (get_or places n 0) d ≡ get_or (keep t xs) n d
-  place_read = sym (get_or-map (λ i. get_or xs i d) places n 0 d place_told)
-      ∙ ap (λ zs. get_or zs n d) (places_kept t (λ i. get_or xs i d) 0 xs d (λ i b. let z : 0 + i ≡ i = omega arith in ap (λ m. get_or xs m d) z))
+    go : (b : Bool) → cond b (Some x ∷ map Some (keep u xs)) (map Some (keep u xs)) ≡ map Some (cond b (x ∷ keep u xs) (keep u xs))
+    go true = refl
+    go false = refl
 
 -- the sum of the values at the first numbers, as a list
 pub sum_first : (h : ℕ → ℕ) (n : ℕ) → sum (map h (range_with_len 0 n)) ≡ sum_to n h

@@ -1,10 +1,12 @@
 -- The two own lines of an open tunnel, and its plain ones, as a question reads them. Assumes nothing.
-use Rattle.std.proofs.Common.{◌≡◌, ℕ, suc, ◌+◌, ◌-◌, ◌%◌, ◌<◌, ◌≤◌, Bool, true, false, cond, not, ltb, ◌⊎◌, inl, inr, List, [], ◌∷◌, ◌++◌, length, get_or, Some, None, Option, Ok, Result, sym, refl, ap, ◌∙◌, subst, ap₂, ⊎_elim, arith, length-append}
-use Rattle.std.proofs.lemmas.List.{get_or_append_left, get_or-append_right, get_or_past}
+use Rattle.std.proofs.Common.{◌≡◌, ℕ, suc, ◌+◌, ◌-◌, ◌%◌, ◌<◌, ◌≤◌, Bool, true, false, cond, not, ltb, ◌⊎◌, inl, inr, List, [], ◌∷◌, ◌++◌, map, length, get_or, Some, None, Option, Ok, Result, sym, refl, ap, ◌∙◌, subst, ap₂, ⊎_elim, arith, length-append}
+use Rattle.std.proofs.lemmas.List.{get_or_append_left, get_or-append_right, get_or_past, get_or-map}
+use Rattle.std.proofs.lemmas.Option.{slice_get-get_or, slice_get_past}
 use Rattle.std.proofs.lemmas.Bool.{cases_eq, cases_order, cond-true, cond-false, lt-ltb, le-ltb}
 use lib.ListN.{length-map}
 use mathlib.Core.Bool.{beq}
-use Rattle.std.specs.Option.{IsSome, MatchOption, option_map}
+use Rattle.std.specs.Option.{IsSome, MatchOption, is_some, option_flatten, option_map}
+use Rattle.std.specs.List.{filter, range_with_len, slice_get}
 use Rattle.frame.specs.declared.frame.Frame.{Frame}
 use Rattle.frame.specs.declared.refusal.Refusal.{Refusal}
 use Rattle.frame.specs.Frames.{FrameValue, frame_value}
@@ -13,13 +15,14 @@ use Rattle.plant.specs.Questions.{no_frame, of_line, Waiting}
 use Rattle.plant.proofs.Sums.{sum_front}
 use Rattle.tunnel.specs.declared.path.Path.{Path}
 use Rattle.tunnel.specs.declared.path.Hop.{Hop}
-use Rattle.tunnel.specs.Tunnels.{Way, way_of, own, top_is, keep, forth, back, popped, hop_frames, along, gather, hop_span, spans, tunnel_value, meaning}
+use Rattle.tunnel.specs.Tunnels.{Way, way_of, own, crossing, top_is, keep, forth, back, popped, hop_frames, along, gather, hop_span, spans, tunnel_value, meaning}
 use Rattle.tunnel.specs.Held.{Links, Exist, PathOk, TunnelOk}
 use Rattle.tunnel.specs.Onward.{line_of}
-use Rattle.tunnel.specs.Inner.{OnHop, picks, told_at}
+use Rattle.tunnel.specs.Inner.{OnHop, picks, told_at, told_get, tops_told}
 use Rattle.tunnel.specs.Paths.{marked, way_within}
 use Rattle.tunnel.proofs.Steps.{low}
 use Rattle.tunnel.proofs.Answers.{Side, side_forth, side_back}
+use Rattle.tunnel.proofs.Counts.{read_all, filter_some}
 use Rattle.tunnel.proofs.Rooms.{keep_parts, keep_like, gather_length, way_load}
 
 -- the side of a direction
@@ -30,6 +33,11 @@ side_of p s even ok false = subst (Side p s (forth p) (back p)) (sym ok.below) (
 -- a line of the tunnel's own is that of the direction that the code takes it for
 pub line_is : (p : Path) (line : ℕ) → p.below ≤ line → line < p.below + 2 → line_of p (ltb p.below line) ≡ line
 line_is p line ge lt = ⊎_elim (λ e. ap (line_of p) (le-ltb p.below line (omega arith)) ∙ sym e) (λ ne. ap (line_of p) (lt-ltb p.below line (omega arith)) ∙ omega arith) (cases_eq line p.below)
+
+-- whether a line's link is on the path, by the hop on the line
+pub crosses_by_hop : (p : Path) → Links p → (l : ℕ) (o : Option Hop) → OnHop p l o → (b : Bool) → b ≡ is_some o → b ≡ crossing p l
+crosses_by_hop p ok l (Some h) on b e = e ∙ sym (marked p ok l (Some h) on).0
+crosses_by_hop p ok l None off b e = e ∙ sym (marked p ok l None off).0
 
 -- the plain part of a line under n
 pub plain_waits : (p : Path) (v : PlantValue) (l k : ℕ) → l < v.shape.lines → ((f : FrameValue) → own p l f ≡ top_is k f)
@@ -185,6 +193,15 @@ told_here v l i lt = cond-true (ltb l v.shape.lines) (get_or (v.waiting l) i no_
 lt_or_le : (a b : ℕ) → (a < b) ⊎ (b ≤ a)
 lt_or_le a b = ⊎_elim (λ e. inr (omega arith)) (⊎_elim (λ lt. inl lt) (λ lt. inr (omega arith))) (cases_order a b)
 
+-- the frame at a place of a line, if one waits there
+pub told_got : (v : PlantValue) (l i : ℕ) (o : Option Frame) → Waiting v l i o → option_map frame_value o ≡ told_get v l i
+told_got v l i (Some f) told =
+    ap Some told.2 ∙ sym (slice_get-get_or (v.waiting l) i no_frame told.1) ∙ sym (cond-true (ltb l v.shape.lines) (slice_get (v.waiting l) i) None (lt-ltb l v.shape.lines told.0))
+told_got v l i None told = sym (⊎_elim
+    (λ lt. cond-true (ltb l v.shape.lines) (slice_get (v.waiting l) i) None (lt-ltb l v.shape.lines lt) ∙ slice_get_past (v.waiting l) i (told lt))
+    (λ ge. cond-false (ltb l v.shape.lines) (slice_get (v.waiting l) i) None (le-ltb l v.shape.lines ge))
+    (lt_or_le l v.shape.lines))
+
 -- a test of the frame at a place, that no missing frame passes
 pub told_test : (v : PlantValue) (l i : ℕ) (t : FrameValue → Bool) → t no_frame ≡ false → l < v.shape.lines → (o : Option Frame) → Waiting v l i o
     → (r : Bool) (P : Frame → Type 0) → ((f : Frame) → P f → r ≡ t (frame_value f)) → MatchOption o (r ≡ false) P → r ≡ t (get_or (v.waiting l) i no_frame)
@@ -192,12 +209,12 @@ told_test v l i t bare line None none r P is e = e ∙ sym (ap t (get_or_past (v
 told_test v l i t bare line (Some f) some r P is e = is f e ∙ ap t some.2
 
 -- the same of a line that may not exist
-pub told_pick : (v : PlantValue) (l i k : ℕ) (own : Bool) (o : Option Frame) → Waiting v l i o
-    → (r : Bool) (P : Frame → Type 0) → ((f : Frame) → P f → r ≡ top_is k (frame_value f)) → MatchOption o (r ≡ false) P → beq r own ≡ picks own k (told_at v l i)
-told_pick v l i k own o told r P is e = ap (λ b. beq b own) (⊎_elim
+pub told_top : (v : PlantValue) (l i k : ℕ) (o : Option Frame) → Waiting v l i o
+    → (r : Bool) (P : Frame → Type 0) → ((f : Frame) → P f → r ≡ top_is k (frame_value f)) → MatchOption o (r ≡ false) P → r ≡ top_is k (told_at v l i)
+told_top v l i k o told r P is e = ⊎_elim
     (λ lt. told_test v l i (top_is k) refl lt o told r P is e ∙ ap (top_is k) (sym (told_here v l i lt)))
     (λ ge. off o told e ge ∙ ap (top_is k) (sym (cond-false (ltb l v.shape.lines) (get_or (v.waiting l) i no_frame) no_frame (le-ltb l v.shape.lines ge))))
-    (lt_or_le l v.shape.lines)) ∙ sym (picks_is own k (told_at v l i))
+    (lt_or_le l v.shape.lines)
   where
     off : (o : Option Frame) → Waiting v l i o → MatchOption o (r ≡ false) P → v.shape.lines ≤ l → r ≡ false
     off None told e ge = e
@@ -211,11 +228,38 @@ way_len false p = refl
 pub hop_span_most : (p : Path) (v : PlantValue) → Lawful v → Exist v.shape p → (b : Bool) (i : ℕ) → i < p.len → hop_span v.shape (way_of b p) i ≤ 2097152
 hop_span_most p v law exist b i lt = (law.shape.line ((way_of b p).at i) (way_within p v.shape.lines law.shape.even exist b i lt)).span_most
 
--- an option as it is
-pub as_is : (o : Option ℕ) → option_map (λ i. i) o ≡ o
-as_is None = refl
-as_is (Some i) = refl
+-- the frames of a line that are told place by place, those with a label on top or the others
+pub picked_list : (v : PlantValue) (l k : ℕ) (own : Bool) → l < v.shape.lines
+    → filter (λ o. beq (tops_told k o) own) (map (told_get v l) (range_with_len 0 (length (v.waiting l)))) ≡ map Some (keep (picks own k) (v.waiting l))
+picked_list v l k own lt =
+    ap (filter (λ o. beq (tops_told k o) own)) (ap (λ n. map (told_get v l) (range_with_len 0 n)) (sym (length-map (v.waiting l) Some))
+    ∙ read_all (told_get v l) 0 (map Some (v.waiting l)) None each)
+    ∙ filter_some (λ o. beq (tops_told k o) own) (picks own k) (λ f. sym (picks_is own k f)) (v.waiting l)
+  where
+    each : (i : ℕ) → i < length (map Some (v.waiting l)) → told_get v l (0 + i) ≡ get_or (map Some (v.waiting l)) i None
+    each i b =
+        let c : i < length (v.waiting l) = omega (arith, b, length-map (v.waiting l) (λ (f : FrameValue). Some f)) in
+        let z : 0 + i ≡ i = omega arith in
+        ap (told_get v l) z ∙ cond-true (ltb l v.shape.lines) (slice_get (v.waiting l) i) None (lt-ltb l v.shape.lines lt)
+        ∙ slice_get-get_or (v.waiting l) i no_frame c ∙ sym (get_or-map Some (v.waiting l) i no_frame None c)
 
--- a place that is found
-pub place_found : (o : Option ℕ) {x : ℕ} → o ≡ Some x → IsSome o
-place_found o e = subst IsSome (sym e) refl
+-- what is found at a place of such a list
+module _ (ys : List FrameValue) (n : ℕ) (lt : n < length ys) (r : Option (Option Frame)) (told : option_map (option_map frame_value) r ≡ slice_get (map Some ys) n)
+    (o : Option Frame) (flat : o ≡ option_flatten r) where
+  at_is : option_map frame_value o ≡ Some (get_or ys n no_frame)
+  at_is = ap (option_map frame_value) flat ∙ go r
+      (told ∙ slice_get-get_or (map Some ys) n None (omega (arith, lt, length-map ys (λ (f : FrameValue). Some f))) ∙ ap Some (get_or-map Some ys n no_frame None lt))
+    where
+      go : (r : Option (Option Frame)) → option_map (option_map frame_value) r ≡ Some (Some (get_or ys n no_frame)) → option_map frame_value (option_flatten r) ≡ Some (get_or ys n no_frame)
+      go (Some q) e = cc
+      go None e = cc
+
+  pub at_some : IsSome o
+  at_some = go o at_is
+    where
+      go : (o : Option Frame) → option_map frame_value o ≡ Some (get_or ys n no_frame) → IsSome o
+      go (Some x) e = refl
+      go None e = cc
+
+  pub at_value : (f : Frame) → o ≡ Some f → frame_value f ≡ get_or ys n no_frame
+  at_value f e = let z : Some (frame_value f) ≡ Some (get_or ys n no_frame) = sym (ap (option_map frame_value) e) ∙ at_is in cc

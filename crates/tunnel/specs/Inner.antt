@@ -1,7 +1,6 @@
 -- What only the contracts of inner functions cite; nothing that is public rests on it. Assumes nothing.
-use Rattle.std.specs.Prelude.{◌≡◌, ℕ, ◌+◌, ◌-◌, ◌<◌, ◌≤◌, Bool, true, false, not, cond, nat_lt, ◌≢◌, List, length, slice_index_or, Some, None, Option, Result}
+use Rattle.std.specs.Prelude.{◌≡◌, ℕ, ◌+◌, ◌-◌, ◌<◌, ◌≤◌, Bool, true, false, not, cond, nat_lt, ◌≢◌, List, length, slice_get, slice_index_or, Some, None, Option, Result}
 use Rattle.std.specs.Option.{option_map}
-use Rattle.std.specs.List.{filter, range_with_len}
 use Rattle.plant.specs.Questions.{no_frame}
 use Rattle.frame.specs.declared.frame.Frame.{Frame}
 use Rattle.frame.specs.declared.refusal.Refusal.{Refusal}
@@ -87,9 +86,14 @@ picks false k f = not (top_is k f)
 abbrev pub told_at : PlantValue → ℕ → ℕ → FrameValue
 told_at v l i = cond (nat_lt l v.shape.lines) (slice_index_or (v.waiting l) i no_frame) no_frame
 
--- the places of the frames with a label on top, or of the others
-abbrev pub places : Bool → ℕ → List FrameValue → List ℕ
-places own k xs = filter (λ i. picks own k (slice_index_or xs i no_frame)) (range_with_len 0 (length xs))
+-- the frame at a place of a line, if the line exists and one waits there
+abbrev pub told_get : PlantValue → ℕ → ℕ → Option FrameValue
+told_get v l i = cond (nat_lt l v.shape.lines) (slice_get (v.waiting l) i) None
+
+-- there is a frame, and its top label is k
+abbrev pub tops_told : ℕ → Option FrameValue → Bool
+tops_told k None = false
+tops_told k (Some f) = top_is k f
 
 -- the future below after a send there
 abbrev pub after_entry : ℕ × FrameValue → Result (Unit {0}) Refusal → Future → Future

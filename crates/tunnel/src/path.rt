@@ -114,6 +114,7 @@ impl Path {
     }
 
     // Whether a line's link is on the path.
+    #[tactic(auto, using(crate::proofs::Reading::crosses_by_hop))]
     pub(crate) fn crosses(&self, line: usize) -> bool
         requires links { Links self.now }
         ensures { result ≡ crossing self.now line }

@@ -1,9 +1,10 @@
 // Questions about the lines of an open tunnel.
-ghost use Rattle.std.specs.Prelude.{◌≡◌, ◌+◌, ◌<◌, length, slice_get, slice_index_or};
+ghost use Rattle.std.specs.Prelude.{◌≡◌, ◌+◌, ◌<◌, length, slice_index_or};
+ghost use Rattle.std.specs.Option.{option_map};
 ghost use Rattle.frame.specs.Frames.{frame_value};
 ghost use Rattle.plant.specs.Questions.{no_frame};
 ghost use Rattle.tunnel.specs.Tunnels.{keep, top_is, way_of, hop_frames, tunnel_value};
-ghost use Rattle.tunnel.specs.Inner.{picks, places, told_at};
+ghost use Rattle.tunnel.specs.Inner.{picks, told_at, told_get, tops_told};
 
 use crate::open::Open;
 use crate::path::Hop;
@@ -118,23 +119,21 @@ impl<P: Plant> Open<'_, P> {
         let label = self.path.label(hop);
         let all = self.below.waits(line).unwrap();
         (0..all)
-            .filter(|place| self.picked(line, *place, label, true))
+            .filter(|place| self.labelled(line, *place, label))
             .count()
     }
 
-    // Whether the frame at a place of a line has a label on top, or, if the others are asked for, whether it has not. A flag, as
-    // the specifications' `picks` has it.
-    fn picked(&self, line: usize, place: usize, label: u32, own: bool) -> bool
-        ensures { result ≡ picks own label (told_at (P.value self.now.below.now) line place) }
+    // Whether a frame with a label on top waits at a place of a line below.
+    fn labelled(&self, line: usize, place: usize, label: u32) -> bool
+        ensures { result ≡ top_is label (told_at (P.value self.now.below.now) line place) }
     {
-        let labelled = self
-            .below
+        self.below
             .waiting(line, place)
-            .is_some_and(|frame| has_top(&frame, label));
-        labelled == own
+            .is_some_and(|frame| has_top(&frame, label))
     }
 
-    // The frame at a place among those on a hop's line that are the tunnel's own, or among the others.
+    // The frame at a place among those on a hop's line that are the tunnel's own, or among the others: a flag, as the
+    // specifications' `picks` has it. Each frame is asked for once, since a tunnel below answers by asking its own plant.
     fn nth(&self, hop: Hop, own: bool, at: usize) -> Frame
         requires hop { hop.index < self.now.path.now.len }
         requires at { at < length (keep (picks own ((way_of hop.back self.now.path.now).label hop.index)) ((P.value self.now.below.now).waiting ((way_of hop.back self.now.path.now).at hop.index))) }
@@ -142,19 +141,30 @@ impl<P: Plant> Open<'_, P> {
     {
         let line = self.at(hop);
         let label = self.path.label(hop);
-        let place = self.place(line, label, own, at).unwrap();
-        self.below.waiting(line, place).unwrap()
-    }
-
-    // The place on a line of the frame at a place among those with a label on top, or among the others.
-    fn place(&self, line: usize, label: u32, own: bool, at: usize) -> Option<usize>
-        requires { line < (P.value self.now.below.now).shape.lines }
-        ensures { result ≡ slice_get (places own label ((P.value self.now.below.now).waiting line)) at }
-    {
         let all = self.below.waits(line).unwrap();
         (0..all)
-            .filter(|place| self.picked(line, *place, label, own))
+            .map(|place| self.told(line, place))
+            .filter(|told| topped(told, label) == own)
             .nth(at)
+            .flatten()
+            .unwrap()
+    }
+
+    // The frame at a place of a line below, if one waits there.
+    fn told(&self, line: usize, place: usize) -> Option<Frame>
+        ensures { option_map frame_value result ≡ told_get (P.value self.now.below.now) line place }
+    {
+        self.below.waiting(line, place)
+    }
+}
+
+// Whether there is a frame, with a label on top.
+fn topped(told: &Option<Frame>, label: u32) -> bool
+    ensures { result ≡ tops_told label (option_map frame_value told.now) }
+{
+    match told {
+        Some(frame) => has_top(frame, label),
+        None => false,
     }
 }
 

@@ -5,7 +5,7 @@ use Rattle.std.proofs.lemmas.Iterator.{YieldsList-from_range}
 use Rattle.std.proofs.lemmas.Iterator.Consumers.{count_from_yields_List, YieldsList-from_filter}
 use Rattle.std.specs.List.{range_with_len}
 use Rattle.plant.specs.Questions.{no_frame}
-use Rattle.tunnel.specs.Inner.{picks, told_at}
+use Rattle.tunnel.specs.Inner.{told_at}
 use Rattle.tunnel.specs.Tunnels.{keep, top_is, popped, way_of}
 use Rattle.tunnel.proofs.Counts.{places_count, filter_like}
 use Rattle.tunnel.proofs.Reading.{is_told, told_is, told_here}
@@ -26,7 +26,7 @@ returns g c =
     let xs = v.waiting l in
     let end = told_is v.shape l (length xs) c.waits.result c.at-line.ensures.exists c.waits.ensures c.unwrap-all.result c.unwrap-all.ensures in
     count_from_yields_List c.filter.result c.count.result c.count.ensures.ran
-    (YieldsList-from_filter _ (λ i. picks true c.label-label.result (told_at v l i)) (YieldsList-from_range 0 c.unwrap-all.result (length xs) (cc) (omega (arith, end))) c.filter.ensures.closure (λ y r q k. search (rules, tests)))
+    (YieldsList-from_filter _ (λ i. top_is c.label-label.result (told_at v l i)) (YieldsList-from_range 0 c.unwrap-all.result (length xs) (cc) (omega (arith, end))) c.filter.ensures.closure (λ y r q k. search (rules, tests)))
     ∙ ap length (filter_like _ _ (λ i. ap (top_is c.label-label.result) (told_here v l i c.at-line.ensures.exists)) (range_with_len 0 (length xs)))
     ∙ places_count (top_is c.label-label.result) xs no_frame
     ∙ ap₂ (λ n k. length (keep (top_is k) (v.waiting n))) c.at-line.ensures.is c.label-label.ensures
