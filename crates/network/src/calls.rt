@@ -67,10 +67,9 @@ impl<P: Plant> Network<P> {
         if self.is_full(line) {
             return Err(Refusal::LineFull);
         }
-        let kind = message.kind;
-        let _ = self.plant.send(line, message_frame(&message));
+        let _ = self.plant.send(line, message_frame(message));
         self.routers.tables.sent(Line::new(line).unwrap(), message);
-        Ok(Some(kind))
+        Ok(Some(message.kind))
     }
 
     // Polls a port of the plant, and lets the router at the end of the line see to a frame that comes out. Answers a pair, as the

@@ -1,5 +1,5 @@
 // The frames that a network sends.
-ghost use Rattle.std.specs.Prelude.{◌≡◌};
+ghost use Rattle.std.specs.Prelude.{◌≡◌, ◌<◌};
 ghost use Rattle.frame.specs.Frames.{frame_value};
 ghost use Rattle.model.specs.Messages.{message as message_value};
 ghost use Rattle.model.specs.Packets.{data_frame};
@@ -9,14 +9,15 @@ use grid::Label;
 use tables::Message;
 
 // The frame of a message. A function and no From: neither type is of this crate.
-pub(crate) fn message_frame(message: &Message) -> Frame
-    ensures { frame_value result ≡ message_value message.now.kind message.now.fec message.now.label }
+pub(crate) fn message_frame(message: Message) -> Frame
+    requires { message.label < 80 }
+    ensures { frame_value result ≡ message_value message.kind message.fec message.label }
 {
     Frame {
         kind: message.kind,
         stack: Stack::new(),
         a: message.fec,
-        b: message.label.number() as u32,
+        b: message.label as u32,
     }
 }
 

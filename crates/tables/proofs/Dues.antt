@@ -40,10 +40,10 @@ module _ (S : Shape) (e : ℕ) (t : Tables) where
   abbrev news : Option Due
   news = due_or (label_at_stage withdraw_due e t) (news_of S e t Withdraw withdrawn) mappings
 
-  is_release : (l f : ℕ) → Some (l, f) ≡ first_due (t.due e) → Some (record { kind = Release; fec = f; label = l }) ≡ message_of (next_message S e t)
+  pub is_release : (l f : ℕ) → Some (l, f) ≡ first_due (t.due e) → Some (record { kind = Release; fec = f; label = l }) ≡ message_of (next_message S e t)
   is_release l f q = at_release (first_label (λ k. is_some (t.due e k))) news l f q
 
-  is_news : None ≡ first_due (t.due e) → first_news S e t ≡ message_of (next_message S e t)
+  pub is_news : None ≡ first_due (t.due e) → first_news S e t ≡ message_of (next_message S e t)
   is_news a = go (label_at_stage withdraw_due e t) ∙ sym (past_release (first_label (λ k. is_some (t.due e k))) news a)
     where
       go : (o : Option ℕ) → or_news (news_on S e t Withdraw o) (news_in S e t Mapping MappingDue) ≡ message_of (due_or o (news_of S e t Withdraw withdrawn) mappings)

@@ -1,5 +1,5 @@
 // Which message is due on a line, and the tables once it is sent.
-ghost use Rattle.std.specs.Prelude.{◌≡◌, ◌<◌, Some, None};
+ghost use Rattle.std.specs.Prelude.{◌≡◌, ◌<◌, ◌≤◌, IfSome, Some, None};
 ghost use Rattle.plant.specs.Plants.{Shape, partner};
 ghost use Rattle.model.specs.Tables.{put2, with_labels, with_remote};
 ghost use Rattle.model.specs.Messages.{next_message};
@@ -20,18 +20,21 @@ impl Tables {
     // News of the smallest label at a stage on the partner of a line, if there is one.
     fn news(&self, line: usize, kind: Kind, stage: Stage) -> Option<Message>
         requires { line < self.now.labels.wiring.lines }
-        ensures { (S : Shape) → Wired self.now.labels.wiring S → result ≡ news_in S line (tables_of self.now) kind stage }
+        ensures news { (S : Shape) → Wired self.now.labels.wiring S → result ≡ news_in S line (tables_of self.now) kind stage }
+        ensures real { IfSome result (λ m. (16 ≤ m.label) × (m.label < 80)) }
     {
         let label = self.labels.first_at(partner_of(line), stage)?;
         let router = self.begin(line).unwrap();
-        let fec = self.labels.fec_of(router, label.number());
+        let label = label.number();
+        let fec = self.labels.fec_of(router, label);
         Some(Message { kind, fec, label })
     }
 
     // News of a label on a line: a withdraw comes before a mapping.
     fn first_news(&self, line: usize) -> Option<Message>
         requires { line < self.now.labels.wiring.lines }
-        ensures { (S : Shape) → Wired self.now.labels.wiring S → result ≡ first_news S line (tables_of self.now) }
+        ensures news { (S : Shape) → Wired self.now.labels.wiring S → result ≡ first_news S line (tables_of self.now) }
+        ensures real { IfSome result (λ m. (16 ≤ m.label) × (m.label < 80)) }
     {
         self.news(line, Kind::Withdraw, Stage::WithdrawDue)
             .or_else(|| self.news(line, Kind::Mapping, Stage::MappingDue))
@@ -40,14 +43,15 @@ impl Tables {
     // The message that a tell of a line sends: a due release, else a withdraw, else a mapping, the smallest label in each.
     pub fn next_message(&self, line: usize) -> Option<Message>
         requires { line < self.now.labels.wiring.lines }
-        ensures { (S : Shape) → Wired self.now.labels.wiring S → result ≡ message_of (next_message S line (tables_of self.now)) }
+        ensures due { (S : Shape) → Wired self.now.labels.wiring S → result ≡ message_of (next_message S line (tables_of self.now)) }
+        ensures real { IfSome result (λ m. (16 ≤ m.label) × (m.label < 80)) }
     {
         self.releases
             .first(line)
             .map(|(label, fec)| Message {
                 kind: Kind::Release,
                 fec,
-                label,
+                label: label.number(),
             })
             .or_else(|| self.first_news(line))
     }
@@ -68,15 +72,19 @@ impl Tables {
         self.releases.set(line, label, None);
     }
 
-    // A message was sent on a line, and is no longer due.
+    // A message was sent on a line, and is no longer due. One of a label that no router uses was not, and changes nothing.
     pub fn sent(&mut self, line: Line, message: Message)
-        ensures { Turned self.old (λ t. after_sent line message t) self.new }
+        ensures sent { 16 ≤ message.label → message.label < 80 → Turned self.old (λ t. after_sent line message t) self.new }
+        ensures unreal { ((16 ≤ message.label) × (message.label < 80) → ⊥) → self.new ≡ self.old }
     {
+        let Some(label) = Label::new(message.label) else {
+            return;
+        };
         match message.kind {
             Kind::Data => {}
-            Kind::Release => self.paid(line, message.label),
-            Kind::Withdraw => self.told(line, message.label, Stage::Withdrawn),
-            Kind::Mapping => self.told(line, message.label, Stage::Told),
+            Kind::Release => self.paid(line, label),
+            Kind::Withdraw => self.told(line, label, Stage::Withdrawn),
+            Kind::Mapping => self.told(line, label, Stage::Told),
         }
     }
 }

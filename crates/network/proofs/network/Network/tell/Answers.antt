@@ -21,7 +21,7 @@ pub returns-in_default-clause-did : goal.returns-in_default-clause-did
 returns-in_default-clause-did g c =
     let s = c.args.self.now in
     let v = g.P.Plant.value s.plant in
-    told_none s.routers v c.args.line (going s.routers.still c.in_ok-runs.ensures) (omega (arith, c.lines.ensures, c.if-line-lines.false)) (c.in_default.ensures v.shape s.fits)
+    told_none s.routers v c.args.line (going s.routers.still c.in_ok-runs.ensures) (omega (arith, c.lines.ensures, c.if-line-lines.false)) (c.in_default.ensures.due v.shape s.fits)
 
 pub returns-then-is_full-clause-did : goal.returns-then-is_full-clause-did
 returns-then-is_full-clause-did g c =
@@ -29,7 +29,7 @@ returns-then-is_full-clause-did g c =
     let v = g.P.Plant.value s.plant in
     let on = going s.routers.still c.in_ok-runs.ensures in
     refuses s.routers v (tell c.args.line) on 23 (line_full s.routers v c.args.line on (omega (arith, c.lines.ensures, c.if-line-lines.false)) c.in-Some.message
-    (c.in-Some.ensures v.shape s.fits) (sym c.is_full.ensures ∙ c.if-is_full.true))
+    (c.in-Some.ensures.due v.shape s.fits) (sym c.is_full.ensures ∙ c.if-is_full.true))
 
 pub returns-clause-did : goal.returns-clause-did
 returns-clause-did g c =
@@ -39,4 +39,4 @@ returns-clause-did g c =
     let x = c.in-Some.message in
     let line : c.unwrap.result ≡ c.args.line = search rules in
     told s.routers v c.args.line (going s.routers.still c.in_ok-runs.ensures) (omega (arith, c.lines.ensures, c.if-line-lines.false)) t (g.P.Plant.value c.send.new.self) x _ c.send.result (sym c.is_full.ensures ∙ c.if-is_full.false)
-    (c.in-Some.ensures v.shape s.fits) c.message_frame.ensures c.send.ensures.sends (subst (λ l. Turned s.routers.tables (λ m. after_sent l x m) t) line c.sent.ensures)
+    (c.in-Some.ensures.due v.shape s.fits) c.message_frame.ensures c.send.ensures.sends (subst (λ l. Turned s.routers.tables (λ m. after_sent l x m) t) line (c.sent.ensures.sent c.in-Some.ensures.real.0 c.in-Some.ensures.real.1))

@@ -5,8 +5,8 @@ use Rattle.tables.specs.Sending.{or_news, first_news}
 use Rattle.tables.proofs.Dues.{release, is_next}
 use Rattle.tables.proofs.tables.Tables.next_message.Goals as goal
 
-pub returns : goal.returns
-returns c S w =
+pub returns-clause-due : goal.returns-clause-due
+returns-clause-due c S w =
     let e = c.args.line in
     let t = tables_of c.args.self.now in
     let news = first_news S e t in
