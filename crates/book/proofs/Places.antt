@@ -1,5 +1,6 @@
 -- What a table's places say, in the model's words.
-use Rattle.std.proofs.Common.{◌≡◌, ℕ, zero, suc, ◌<◌, ◌≤◌, List, [], ◌∷◌, map, length, Some, None, Option, refl, ap, ◌∙◌, le_of_suc-le-suc, not-suc-le-zero, arith}
+use Rattle.std.proofs.Common.{◌≡◌, ℕ, zero, suc, ◌<◌, ◌≤◌, List, [], ◌∷◌, map, length, Some, None, Option, refl, sym, ap, ◌∙◌, le_of_suc-le-suc, not-suc-le-zero, arith}
+use lib.ListN.{length-map}
 use Rattle.std.proofs.lemmas.List.{same_lists}
 use Rattle.model.specs.Packets.{End, at, revise, close}
 use Rattle.book.specs.declared.packet.Record.{Record as Row}
@@ -26,7 +27,11 @@ revise_ended (x ∷ xs) (suc p) d (y ∷ ys) h e =
     ∙ ap (λ rs. record_of x ∷ rs) (revise_ended xs p d ys (le_of_suc-le-suc h)
     (record { long = omega (arith, e.long); here = e.here; others = λ k z n. e.others (suc k) z (λ q. n (omega (arith, q))) }))
 
-pub revise_beyond : {A : Type 0} (xs : List (Row A)) (p : ℕ) (d : End) → length xs ≤ p → map record_of xs ≡ revise (close d) p (map record_of xs)
-revise_beyond [] p d h = refl
-revise_beyond (x ∷ xs) zero d h = absurd (not-suc-le-zero h)
-revise_beyond (x ∷ xs) (suc p) d h = ap (λ zs. record_of x ∷ zs) (revise_beyond xs p d (le_of_suc-le-suc h))
+pub revise_beyond : {Y : Type 0} (f : Y → Y) (ys : List Y) (p : ℕ) → length ys ≤ p → revise f p ys ≡ ys
+revise_beyond f [] p h = refl
+revise_beyond f (y ∷ ys) zero h = absurd (not-suc-le-zero h)
+revise_beyond f (y ∷ ys) (suc p) h = ap (λ zs. y ∷ zs) (revise_beyond f ys p (le_of_suc-le-suc h))
+
+-- the same of the end of a packet that no record has
+pub end_beyond : {A : Type 0} (xs : List (Row A)) (p : ℕ) (d : End) → length xs ≤ p → map record_of xs ≡ revise (close d) p (map record_of xs)
+end_beyond xs p d h = sym (revise_beyond (close d) (map record_of xs) p (omega (arith, length-map xs record_of, h)))

@@ -1,6 +1,5 @@
 // The book: a table of the records, with room for as many as there may be.
 ghost use Rattle.std.specs.Prelude.{◌≤◌, vec_len, vec_capacity};
-ghost use Rattle.book.specs.declared.book.TheConstants.{MOST_PACKETS};
 
 use crate::table::Table;
 
@@ -10,6 +9,6 @@ pub const MOST_PACKETS: usize = 512;
 #[derive(Drop)]
 pub struct Book<A> {
     pub(crate) table: Table<A>,
-    ghost few: { vec_len table.records ≤ MOST_PACKETS },
-    ghost room: { MOST_PACKETS ≤ vec_capacity table.records },
+    ghost few: { vec_len table.records ≤ 512 },
+    ghost room: { 512 ≤ vec_capacity table.records },
 }

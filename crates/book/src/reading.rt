@@ -19,7 +19,7 @@ impl<A: Copy> Book<A> {
 
     // Whether it has as many records as it may. It never has more.
     pub fn is_full(&self) -> bool
-        ensures { result ≡ nat_le MOST_PACKETS (length (book_of self.now)) }
+        ensures { result ≡ nat_le 512 (length (book_of self.now)) }
     {
         self.len() >= MOST_PACKETS
     }

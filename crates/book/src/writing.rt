@@ -22,14 +22,14 @@ impl<A: Copy> Book<A> {
 
     // One record more, in a book that has room.
     pub fn append(&mut self, packet: Record<A>)
-        requires { length (book_of self.old) < MOST_PACKETS }
+        requires { length (book_of self.old) < 512 }
         ensures { book_of self.new ≡ book_of self.old ++ record_of packet ∷ [] }
     {
         self.table.push(packet);
     }
 
     // Writes the end of a packet into its record; a number that no packet has changes nothing.
-    #[tactic(auto, using(crate::proofs::Places::revise_ended, crate::proofs::Places::revise_beyond))]
+    #[tactic(auto, using(crate::proofs::Places::revise_ended, crate::proofs::Places::end_beyond))]
     pub fn end(&mut self, end: End)
         ensures { book_of self.new ≡ settle (Some (end_of end)) (book_of self.old) }
     {

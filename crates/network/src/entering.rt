@@ -7,7 +7,7 @@ ghost use Rattle.network.specs.Networks.{plan_of, Keeps};
 
 use crate::hand::InHand;
 use crate::routers::Routers;
-use book::{MOST_PACKETS, Record};
+use book::Record;
 use lookup::Address;
 use model::Fate;
 
@@ -23,10 +23,10 @@ impl Routers {
 
     // Writes the record of a packet that comes in, and answers its number.
     pub(crate) fn enter(&mut self, hand: InHand, address: Address, fec: Option<usize>) -> usize
-        requires room { length (book_of self.old.book) < MOST_PACKETS }
+        requires room { length (book_of self.old.book) < 512 }
         requires fec { fec ≡ (plan_of self.old.plan).lookup address }
         ensures number { result ≡ length (book_of self.old.book) }
-        ensures few { result < MOST_PACKETS }
+        ensures few { result < 512 }
         ensures book { book_of self.new.book ≡ book_of self.old.book ++ record_of (plan_of self.old.plan) result hand.router address hand.ttl ∷ [] }
         ensures tables { self.new.tables ≡ self.old.tables }
         ensures keeps { Keeps self.old self.new }

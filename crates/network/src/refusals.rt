@@ -11,7 +11,6 @@ ghost use Rattle.network.specs.Networks.{plan_of, state_of, wiring_of};
 
 use crate::hand::InHand;
 use crate::routers::Routers;
-use book::MOST_PACKETS;
 use frame::Refusal;
 use grid::{FecNumber, Router};
 
@@ -101,7 +100,7 @@ impl Routers {
     // The packet in hand that inject names, while the book has room for it.
     pub(crate) fn parse_inject(&self, router: usize, ttl: usize) -> Result<InHand, Refusal>
         ensures refused { (v : PlantValue) → refused_by result ≡ inject_refusal (plan_of self.now.plan) router ttl (state_of self.now v) }
-        ensures good { IfOk result (λ h. (h ≡ record { router = router; ttl = ttl }) × (length (book_of self.now.book) < MOST_PACKETS)) }
+        ensures good { IfOk result (λ h. (h ≡ record { router = router; ttl = ttl }) × (length (book_of self.now.book) < 512)) }
     {
         self.router(router)?;
         if ttl >= 256 {
