@@ -1,7 +1,7 @@
 // The jobs that the program carries out.
 use crate::carrying::Carrier;
 use frame::{Entry, Frame, Kind, Stack};
-use ring::{Link, Ring};
+use ring::{Link, Ring, room_for};
 use tunnel::Tunnel;
 
 // A packet under one label. Of plain numbers, as a message here: the network's own frames take a Label, and labels that a plant
@@ -39,7 +39,7 @@ pub fn over_a_ring(rt: &(impl AllocGlobal + Print)) -> anyhow::Result<()> {
         Link { a: 1, b: 2, cap: 2 },
         Link { a: 2, b: 0, cap: 1 },
     ];
-    let mut carrier = Carrier::new(Ring::with_room(rt.alloc(), &links)?);
+    let mut carrier = Carrier::new(Ring::new(&links, room_for(rt.alloc(), &links)?));
     carrier.describe(rt)?;
     for packet in 0..5 {
         carrier.send(rt, 0, data(16 + packet, packet))?;
@@ -62,7 +62,7 @@ pub fn over_a_ring(rt: &(impl AllocGlobal + Print)) -> anyhow::Result<()> {
 pub fn over_a_tunnel(rt: &(impl AllocGlobal + Print)) -> anyhow::Result<()> {
     println!(rt; "a tunnel along lines 0 and 2, window 2, over two links")?;
     let links = [Link { a: 0, b: 1, cap: 4 }, Link { a: 1, b: 2, cap: 4 }];
-    let ring = Ring::with_room(rt.alloc(), &links)?;
+    let ring = Ring::new(&links, room_for(rt.alloc(), &links)?);
     let mut carrier = Carrier::new(Tunnel::new(ring, &[0, 2], 2));
     carrier.describe(rt)?;
     carrier.send(rt, 4, data(16, 1))?;
@@ -86,7 +86,7 @@ pub fn over_a_tunnel(rt: &(impl AllocGlobal + Print)) -> anyhow::Result<()> {
 pub fn windows(rt: &(impl AllocGlobal + Print)) -> anyhow::Result<()> {
     let links = [Link { a: 0, b: 1, cap: 4 }, Link { a: 1, b: 2, cap: 4 }];
     for window in 3..5 {
-        let ring = Ring::with_room(rt.alloc(), &links)?;
+        let ring = Ring::new(&links, room_for(rt.alloc(), &links)?);
         match Tunnel::new(ring, &[0, 2], window).fault() {
             Some(refusal) => println!(rt; "window {window}: {refusal}")?,
             None => println!(rt; "window {window}: taken")?,
@@ -105,7 +105,7 @@ pub fn over_two_tunnels(rt: &(impl AllocGlobal + Print)) -> anyhow::Result<()> {
         Link { a: 1, b: 2, cap: 4 },
         Link { a: 2, b: 3, cap: 4 },
     ];
-    let lower = Tunnel::new(Ring::with_room(rt.alloc(), &links)?, &[0, 2], 2);
+    let lower = Tunnel::new(Ring::new(&links, room_for(rt.alloc(), &links)?), &[0, 2], 2);
     let mut carrier = Carrier::new(Tunnel::new(lower, &[6, 4], 1));
     carrier.describe(rt)?;
     for (line, frame) in [

@@ -4,7 +4,7 @@ use crate::steps::{Step, take_all};
 use lookup::{Address, Plan};
 use network::start;
 use plant::Plant;
-use ring::{Link, Ring};
+use ring::{Link, Ring, room_for};
 use tunnel::Tunnel;
 
 // A plan of so many routers, policy ordered, with the one FEC 10.0.0.0/8.
@@ -36,7 +36,8 @@ pub fn over_a_ring(rt: &(impl AllocGlobal + Print)) -> anyhow::Result<()> {
         Link { a: 0, b: 3, cap: 2 },
         Link { a: 3, b: 2, cap: 2 },
     ];
-    rehearse(rt, 4, Ring::with_room(rt.alloc(), &links)?, &CUTOVER)
+    let ring = Ring::new(&links, room_for(rt.alloc(), &links)?);
+    rehearse(rt, 4, ring, &CUTOVER)
 }
 
 // The steps of that rehearsal.
@@ -81,7 +82,7 @@ const CUTOVER: [Step; 31] = [
 pub fn over_a_tunnel(rt: &(impl AllocGlobal + Print)) -> anyhow::Result<()> {
     println!(rt; "over a tunnel from router 0 to router 2")?;
     let links = [Link { a: 0, b: 1, cap: 4 }, Link { a: 1, b: 2, cap: 4 }];
-    let plant = Tunnel::new(Ring::with_room(rt.alloc(), &links)?, &[0, 2], 2);
+    let plant = Tunnel::new(Ring::new(&links, room_for(rt.alloc(), &links)?), &[0, 2], 2);
     let steps = [
         Step::Route(0, 0, Some(4)),
         Step::Own(2, 0, 1),
@@ -106,7 +107,7 @@ pub fn over_two_tunnels(rt: &(impl AllocGlobal + Print)) -> anyhow::Result<()> {
         Link { a: 1, b: 2, cap: 4 },
         Link { a: 2, b: 3, cap: 4 },
     ];
-    let lower = Tunnel::new(Ring::with_room(rt.alloc(), &links)?, &[0, 2], 2);
+    let lower = Tunnel::new(Ring::new(&links, room_for(rt.alloc(), &links)?), &[0, 2], 2);
     let plant = Tunnel::new(lower, &[6, 4], 1);
     let steps = [
         Step::Route(0, 0, Some(8)),

@@ -6,12 +6,13 @@ pub mod link;
 mod make;
 pub mod ring;
 pub mod ring_plant;
-mod room;
+pub mod room;
 pub mod row;
 mod survey;
 
 pub use crate::link::Link;
 pub use crate::ring::Ring;
+pub use crate::room::room_for;
 
 #[cfg(test)]
 mod tests;

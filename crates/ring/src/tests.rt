@@ -1,6 +1,7 @@
 // The edge of each refusal, and the order in which frames come out.
 use crate::link::Link;
 use crate::ring::Ring;
+use crate::room::room_for;
 use frame::{Frame, Kind, Refusal, Stack};
 use plant::{Outcome, Plant};
 use std::alloc::{AllocError, Global};
@@ -112,5 +113,30 @@ fn a_plant_takes_its_room(rt: HostRuntime) -> Result<(), Fail> {
     assert_eq!(rt; plant.lines(), 2);
     assert!(rt; plant.send(1, release(5)).is_ok());
     assert!(rt; matches!(plant.send(1, release(6)), Err(Refusal::LineFull)));
+    Ok(())
+}
+
+#[test]
+fn places_for_all_lines(rt: HostRuntime) -> Result<(), Fail> {
+    let links = [
+        Link { a: 0, b: 1, cap: 3 },
+        Link {
+            a: 1,
+            b: 2,
+            cap: 32,
+        },
+    ];
+    let places = room_for(rt.alloc(), &links)?;
+    assert_eq!(rt; places.len(), 70);
+    assert!(rt; Ring::new(&links, places).fault().is_none());
+    let places = room_for(
+        rt.alloc(),
+        &[Link {
+            a: 0,
+            b: 1,
+            cap: 33,
+        }],
+    )?;
+    assert_eq!(rt; places.len(), 64);
     Ok(())
 }
