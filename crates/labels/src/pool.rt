@@ -2,7 +2,7 @@
 ghost use Rattle.std.specs.Prelude.{◌≡◌, ℕ, Bool, IfSome, IsFalse};
 ghost use Rattle.model.specs.Tables.{put2, first_label};
 ghost use Rattle.labels.specs.Pools.{slots, Tests};
-ghost use Rattle.labels.specs.Grants.{Takes};
+ghost use Rattle.labels.specs.Grants.{smallest_open, Takes};
 
 use crate::grant::Grant;
 use crate::status::Status;
@@ -58,12 +58,19 @@ impl Pool {
         Label::smallest(|label| sought(self.get(router, label.number())))
     }
 
+    // The smallest free label of a router.
+    fn first_free(&self, router: usize) -> Option<Label>
+        ensures { result ≡ smallest_open self.now router }
+    {
+        self.first(router, |status| matches!(status, Status::Free))
+    }
+
     // Grants the smallest free label of a router. It is taken until the grant is spent, so no other grant is of it.
     pub fn take(&mut self, router: Router) -> Option<Grant>
         ensures takes { Takes self.old router result self.new }
         ensures unspent { IfSome result (λ g. IsFalse g.spent) }
     {
-        let label = self.first(router.number(), |status| matches!(status, Status::Free))?;
+        let label = self.first_free(router.number())?;
         self.put(router, label, Status::Taken);
         Some(Grant {
             router,
