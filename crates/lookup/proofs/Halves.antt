@@ -10,7 +10,7 @@ module _ (hi lo len : ℕ) where
   abbrev both : ℕ
   both = hi * 2 ^ 64 + lo
 
-  last_low : 64 ≤ len → both % 2 ^ (128 - len) ≡ lo % 2 ^ (128 - len)
+  pub last_low : 64 ≤ len → both % 2 ^ (128 - len) ≡ lo % 2 ^ (128 - len)
   last_low h =
       let k : ℕ = 128 - len in
       let s : (64 - k) + k ≡ 64 = omega arith in
@@ -18,7 +18,7 @@ module _ (hi lo len : ℕ) where
       ∙ ap (λ x. (x + lo) % 2 ^ k) (sym (mul_assoc hi (2 ^ (64 - k)) (2 ^ k)))
       ∙ mul-add-mod_self_right (hi * 2 ^ (64 - k)) (2 ^ k) lo
 
-  last_both : len < 64 → lo < 2 ^ 64 → both % 2 ^ (128 - len) ≡ (hi % 2 ^ (64 - len)) * 2 ^ 64 + lo
+  pub last_both : len < 64 → lo < 2 ^ 64 → both % 2 ^ (128 - len) ≡ (hi % 2 ^ (64 - len)) * 2 ^ 64 + lo
   last_both h l =
       let s : 128 - len ≡ (64 - len) + 64 = omega arith in
       let a : both / 2 ^ 64 ≡ hi = shr_high hi 64 lo l in

@@ -27,7 +27,7 @@ module _ {X : Type 0} where
   revise_other g (suc p) (y ∷ xs) zero n = refl
   revise_other g (suc p) (y ∷ xs) (suc i) n = revise_other g p xs i (λ e. n (ap suc e))
 
-  length-revise : (g : X → X) (p : ℕ) (xs : List X) → length (revise g p xs) ≡ length xs
+  pub length-revise : (g : X → X) (p : ℕ) (xs : List X) → length (revise g p xs) ≡ length xs
   length-revise g p [] = refl
   length-revise g zero (y ∷ xs) = refl
   length-revise g (suc p) (y ∷ xs) = ap suc (length-revise g p xs)
