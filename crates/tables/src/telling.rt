@@ -72,7 +72,7 @@ impl Tables {
         self.releases.set(line, label, None);
     }
 
-    // A message was sent on a line, and is no longer due. One of a label that no router uses was not, and changes nothing.
+    // A message was sent on a line, and is no longer due. A label that no router uses is never due, so a message of one changes nothing.
     pub fn sent(&mut self, line: Line, message: Message)
         ensures sent { 16 ≤ message.label → message.label < 80 → Turned self.old (λ t. after_sent line message t) self.new }
         ensures unreal { ((16 ≤ message.label) × (message.label < 80) → ⊥) → self.new ≡ self.old }

@@ -2,7 +2,6 @@
 use Rattle.std.proofs.Common.{◌≡◌, ℕ, zero, suc, ◌+◌, ◌*◌, ◌<◌, ◌≤◌, Bool, true, false, cond, List, [], ◌∷◌, map, length, get_or, Some, Option, sym, refl, ap, ap₂, ◌∙◌, add-one, arith}
 use lib.ListN.{length-map}
 use Rattle.std.specs.List.{filter, range_with_len, sum}
-use Rattle.std.proofs.lemmas.List.{get_or-map}
 use Rattle.std.proofs.lemmas.List.FromFn.{sum_by-map-range_with_len_more}
 use Rattle.plant.specs.Plants.{sum_to}
 use Rattle.tunnel.specs.Tunnels.{keep}

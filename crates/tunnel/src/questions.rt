@@ -162,10 +162,7 @@ impl<P: Plant> Open<'_, P> {
 fn topped(told: &Option<Frame>, label: u32) -> bool
     ensures { result ≡ tops_told label (option_map frame_value told.now) }
 {
-    match told {
-        Some(frame) => has_top(frame, label),
-        None => false,
-    }
+    told.as_ref().is_some_and(|frame| has_top(frame, label))
 }
 
 // Whether a frame has a label on top.

@@ -1,4 +1,4 @@
-use Rattle.std.proofs.Common.{true, length, sym, ap, ap₂, ◌∙◌, rules, arith}
+use Rattle.std.proofs.Common.{length, sym, ap, ap₂, ◌∙◌, rules, arith}
 use borrow.Author.Tests.{tests}
 use lib.ListN.{length-map}
 use Rattle.std.proofs.lemmas.Iterator.{YieldsList-from_range}
